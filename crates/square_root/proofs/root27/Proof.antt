@@ -1,0 +1,75 @@
+-- `square_root::root27` meets its contract: each number fits, and `settle` does the rest. Assumes nothing.
+use mathlib.Core.Path.{_≡_}
+use Prim.Native.Nat.{ℕ, _+_, _-_, _*_, _/_, _^_, _≤_, _<_}
+use native.Mathlib.Nat.{lt-of-le-of-lt}
+use native.Mathlib.Omega.{arith}
+use mathlib.Core.Logic.{⊎-elim}
+use lib.Pow.{shr-lt}
+use mir.Syntax.{w64}
+use mir.Val.{Fits}
+use borrow.Author.Needs.{needs}
+use Rattle.square_root.proofs.Products.{mul-lt-pow, product}
+use Rattle.square_root.proofs.root27.Statement.{statement}
+use Rattle.square_root.proofs.root27.Tie as tie
+use Rattle.square_root.proofs.root27.Reads as reads
+use Rattle.square_root.proofs.root27.Lts as lts
+use Rattle.square_root.proofs.inverse_root.Reads as inverse-root-reads
+use Rattle.square_root.proofs.settle.Reads as settle-reads
+
+inverse-root-requires : tie.Need-inverse-root-requires
+inverse-root-requires c κs = search needs
+
+mul-g : tie.Need-mul-g
+mul-g c = product (shr-lt 32 22 (c .before .pre .1)) (c .inverse-root .ensures)
+
+-- the first guess
+guess-lt : (n y : ℕ) → n < 2 ^ 54 → y < 2 ^ 32 → n / 2 ^ 22 * y / 2 ^ 32 < 2 ^ 32
+guess-lt n y h k = shr-lt 32 32 (mul-lt-pow 32 32 (shr-lt 32 22 h) k)
+
+mul-if1 : tie.Need-mul-if1
+mul-if1 c = let g = guess-lt (c .before .args .n) (c .inverse-root .result) (c .before .pre .1) (c .inverse-root .ensures) in product g g
+
+mul-rest : tie.Need-mul-rest
+mul-rest c = search needs
+
+sub-rest : tie.Need-sub-rest
+sub-rest c = search needs
+
+abbrev Here : Type 0
+Here = lts.After-row-known (inverse-root-reads.Asked, inverse-root-reads.Learnt, settle-reads.Asked, settle-reads.Learnt) reads.Pre reads.Post
+
+rest-lt : (c : Here) → c .before .if1 .rest < 2 ^ 54
+rest-lt c = ⊎-elim (λ w. omega arith) (λ w. omega arith) (c .before .if1 .came)
+
+mul-h : tie.Need-mul-h
+mul-h c = product (shr-lt 32 22 (rest-lt c)) (c .before .before .inverse-root .ensures)
+
+sum-fits : (a b : ℕ) → a < 2 ^ 32 → b < 2 ^ 64 → Fits w64 (a + b / 2 ^ 33)
+sum-fits a b h k = omega arith
+
+add-h : tie.Need-add-h
+add-h c =
+    let n = c .before .before .before .args .n in
+    let y = c .before .before .inverse-root .result in
+    let Y = c .before .before .inverse-root .ensures in
+    sum-fits (n / 2 ^ 22 * y / 2 ^ 32) (c .before .if1 .rest / 2 ^ 22 * y) (guess-lt n y (c .before .before .before .pre .1) Y) (mul-lt-pow 32 32 (shr-lt 32 22 (rest-lt c)) Y)
+
+settle-requires : tie.Need-settle-requires
+settle-requires c κs = (c .before .before .before .before .pre .1, ⊎-elim (λ w. omega arith) (λ w. omega arith) (c .if2 .came))
+
+returns : tie.Need-returns
+returns c = search needs
+
+pub root27-spec : {M : Type 1} → statement M
+root27-spec =
+    tie.close
+    (tie.spec
+    inverse-root-requires
+    mul-g
+    mul-if1
+    mul-rest
+    sub-rest
+    mul-h
+    add-h
+    settle-requires
+    returns)

@@ -1,0 +1,86 @@
+-- `square_root::sqrt_bits` meets its contract: `Normal.antt`. Assumes nothing.
+use mathlib.Core.Path.{_≡_, refl, sym, ap, _∙_, subst}
+use Prim.Native.Nat.{ℕ, suc, _+_, _-_, _*_, _/_, _%_, _^_, _≤_, _<_}
+use native.Mathlib.Nat.{lt-of-le-of-lt, lt-of-lt-of-le, le-trans}
+use native.Mathlib.Omega.{arith}
+use lib.Dec.{lit<, lit≤}
+use lib.Bits.{mask-lt}
+use mir.Facts.{fits-below}
+use borrow.Author.Needs.{needs}
+use Rattle.square_root.specs.Steps.{RootBits}
+use Rattle.square_root.proofs.Normal.{normal-units, zeros-ge, shift-le, up-range, subnormal-units}
+use Rattle.square_root.proofs.sqrt_bits.Statement.{statement}
+use Rattle.square_root.proofs.sqrt_bits.Tie as tie
+use Rattle.square_root.proofs.sqrt_bits.Reads as reads
+use Rattle.square_root.proofs.sqrt_bits.Lts as lts
+use Rattle.square_root.proofs.pack.Reads as pack-reads
+
+below : (b : ℕ) → b / 2 ^ 52 ≡ 0 → b < 2 ^ 52
+below b h = omega arith
+
+above : (b : ℕ) → (b / 2 ^ 52 ≡ 0 → ⊥) → 2 ^ 52 ≤ b
+above b h = omega arith
+
+sub-s : tie.Need-sub-s
+sub-s c = zeros-ge (c .before .args .b) (c .before .pre .0) (below (c .before .args .b) (c .if1 .taken))
+
+cast-pack : tie.Need-cast-pack
+cast-pack c = fits-below {n = 52} tt (shift-le (c .before .args .b) (c .before .pre .0) (below (c .before .args .b) (c .if1 .taken)))
+
+shl-pack : tie.Need-shl-pack
+shl-pack c = lt-of-le-of-lt (shift-le (c .before .args .b) (c .before .pre .0) (below (c .before .args .b) (c .if1 .taken))) (lit< tt)
+
+cast-pack-2 : tie.Need-cast-pack-2
+cast-pack-2 c = cast-pack c
+
+sub-pack : tie.Need-sub-pack
+sub-pack c = le-trans (shift-le (c .before .args .b) (c .before .pre .0) (below (c .before .args .b) (c .if1 .taken))) (lit≤ tt)
+
+exponent : (s : ℕ) → s ≤ 52 → (1022 ≤ 1074 - s) × (1074 - s < 3120)
+exponent s h = (omega arith, omega arith)
+
+pack-requires : tie.Need-pack-requires
+pack-requires c κs =
+    let b = c .before .args .b in
+    let s = below b (c .if1 .taken) in
+    let r = up-range b (c .before .pre .0) s in
+    let e = exponent _ (shift-le b (c .before .pre .0) s) in
+    (r .0, r .1, e .0, e .1)
+
+add-pack : tie.Need-add-pack
+add-pack c = omega (arith, mask-lt (c .before .args .b) 52)
+
+add-pack-2 : tie.Need-add-pack-2
+add-pack-2 c = search needs
+
+normal-range : (b t : ℕ) → b < 0x7ff0_0000_0000_0000 → t < 2 ^ 52 → (2 ^ 52 ≤ t + 2 ^ 52) × (t + 2 ^ 52 < 2 ^ 53) × (1022 ≤ b / 2 ^ 52 + 1073) × (b / 2 ^ 52 + 1073 < 3120)
+normal-range b t h k = (omega arith, omega arith, omega arith, omega arith)
+
+pack-requires-2 : tie.Need-pack-requires-2
+pack-requires-2 c κs = normal-range (c .before .args .b) _ (c .before .pre .1) (mask-lt (c .before .args .b) 52)
+
+returns : tie.Need-returns
+returns c =
+    let b = c .before .before .args .b in
+    subst (λ (n : ℕ). RootBits n (c .pack .result)) (subnormal-units b (c .before .before .pre .0) (below b (c .before .if1 .taken))) (c .pack .ensures)
+
+returns-2 : tie.Need-returns-2
+returns-2 c =
+    let b = c .before .before .args .b in
+    subst (λ (n : ℕ). RootBits n (c .pack2 .result)) (normal-units b (above b (c .before .if1 .left))) (c .pack2 .ensures)
+
+pub sqrt-bits-spec : {M : Type 1} → statement M
+sqrt-bits-spec =
+    tie.close
+    (tie.spec
+    sub-s
+    cast-pack
+    shl-pack
+    cast-pack-2
+    sub-pack
+    pack-requires
+    add-pack
+    add-pack-2
+    pack-requires-2
+    returns
+    returns-2)

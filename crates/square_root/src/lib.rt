@@ -1,0 +1,130 @@
+// The square root of an f64, correctly rounded, worked out on integers.
+ghost use mathlib.Core.Path.{_≡_};
+ghost use Prim.Native.Nat.{_+_, _-_, _*_, _^_, _≤_, _<_};
+ghost use lib.Ieee.{binary64};
+ghost use Rattle.square_root.specs.Sqrt.{SquareRoot};
+ghost use Rattle.square_root.specs.Computed.{sqrtOf};
+ghost use Rattle.square_root.specs.Steps.{Root, RootBits, unitsOf};
+
+// c0 - c1 * t + c2 * t^2, for t of 32 places after the point and the others of 28, to 14 places.
+fn parabola(t: u64, c0: u64, c1: u64, c2: u64) -> u64
+    requires { ⌜ (t < 2 ^ 32) × (c0 < 2 ^ 30) × (c1 < 2 ^ 32) × (c2 ≤ c1) × (t * c1 < c0 * 2 ^ 32) ⌝ }
+    ensures { λ r. ⌜ r < 2 ^ 16 ⌝ }
+{
+    let v = c1 - ((t * c2) >> 32);
+    (c0 - ((t * v) >> 32)) >> 14
+}
+
+// About 1 / root of t, for t from 1/4 up to 1 with 32 places after the point: to 27 places, of which 16 are right.
+// No contract speaks of that: whatever it returns, `root27` is right, and it is quick where this is near.
+fn inverse_root(t: u64) -> u64
+    requires { ⌜ t < 2 ^ 32 ⌝ }
+    ensures { λ r. ⌜ r < 2 ^ 32 ⌝ }
+{
+    let y = if t < 0x8000_0000 {
+        parabola(t, 0x328c_671b, 0x5d81_7d4d, 0x4b9d_b3b5)
+    } else {
+        parabola(t, 0x23be_3f1d, 0x210f_2e39, 0x0d5d_fd97)
+    };
+    let p = (t * (y * y)) >> 32;
+    let d = (0x1_3000_0000 - p) & 0xffff_ffff;
+    (y * d) >> 16
+}
+
+// The largest r with r * r <= n, from any guess s.
+fn settle(n: u64, s: u64) -> u64
+    requires { ⌜ (n < 2 ^ 54) × (s < 2 ^ 27) ⌝ }
+    ensures { λ r. ⌜ Root n r ⌝ }
+{
+    let mut r = s;
+    while n < r * r {
+        r -= 1;
+    }
+    while (r + 1) * (r + 1) <= n {
+        r += 1;
+    }
+    r
+}
+
+// The same for an n of 53 or 54 bits, whose root has 27, with a guess that is the root or next to it:
+// n / root of n, with 16 digits right, and one step of Newton's.
+fn root27(n: u64) -> u64
+    requires { ⌜ (2 ^ 52 ≤ n) × (n < 2 ^ 54) ⌝ }
+    ensures { λ r. ⌜ Root n r ⌝ }
+{
+    let t = n >> 22;
+    let y = inverse_root(t);
+    let g = (t * y) >> 32;
+    let rest = if g * g <= n { n - g * g } else { 0 };
+    let h = g + (((rest >> 22) * y) >> 33);
+    settle(n, if h < 0x800_0000 { h } else { 0x7ff_ffff })
+}
+
+// The largest r with r * r <= n * 2^54: 54 bits. The upper half of its digits is the root of n,
+// the lower half is what is left over, divided by twice that root, or one less.
+fn root54(n: u64) -> u64
+    requires { ⌜ (2 ^ 52 ≤ n) × (n < 2 ^ 54) ⌝ }
+    ensures { λ r. ⌜ Root (n * 2 ^ 54) r ⌝ }
+{
+    let s = root27(n);
+    let a = (n - s * s) << 27;
+    let q = a / (2 * s);
+    let u = a % (2 * s);
+    let r = (s << 27) + q;
+    if (u << 27) < q * q { r - 1 } else { r }
+}
+
+// The bits of the value nearest to the root of m * 2^l, counted in units of 2^-1074.
+fn pack(m: u64, l: u64) -> u64
+    requires { ⌜ (2 ^ 52 ≤ m) × (m < 2 ^ 53) × (1022 ≤ l) × (l < 3120) ⌝ }
+    ensures { λ r. ⌜ RootBits (m * 2 ^ l) r ⌝ }
+{
+    let s = root54(m << (l & 1));
+    (((l >> 1) - 26) << 52) + ((s + 1) >> 1)
+}
+
+// The same of the value whose bits are b, which is finite and above zero.
+fn sqrt_bits(b: u64) -> u64
+    requires { ⌜ (0 < b) × (b < 0x7ff0_0000_0000_0000) ⌝ }
+    ensures { λ r. ⌜ RootBits (unitsOf b * 2 ^ 1074) r ⌝ }
+{
+    let e = b >> 52;
+    if e == 0 {
+        let s = u64::leading_zeros(b) - 11;
+        pack(b << s, 1074 - s as u64)
+    } else {
+        pack((b & 0xf_ffff_ffff_ffff) + 0x10_0000_0000_0000, e + 1073)
+    }
+}
+
+// IEEE 754's squareRoot: -0 for -0, a NaN for a NaN and for what is below zero.
+pub fn sqrt(x: f64) -> f64
+    ensures { λ r. ⌜ SquareRoot binary64 x r ⌝ }
+{
+    if x != x {
+        x
+    } else {
+        let b = f64::to_bits(x);
+        if b >= 0x8000_0000_0000_0000 {
+            if b == 0x8000_0000_0000_0000 {
+                x
+            } else {
+                0.0 / 0.0
+            }
+        } else if b == 0 {
+            x
+        } else if b >= 0x7ff0_0000_0000_0000 {
+            x
+        } else {
+            f64::from_bits(sqrt_bits(b))
+        }
+    }
+}
+
+// The same for C and Rust, said by the definition that computes.
+#[no_mangle]
+pub extern "C" fn sqrt_f64(x: f64) -> f64
+    ensures { λ r. ⌜ r ≡ sqrtOf binary64 x ⌝ }
+{
+    sqrt(x)
+}
