@@ -1,10 +1,30 @@
+// IEEE 754's total order on binary64 bit patterns: the value of a pattern, its key, and the order of three.
 ghost use mathlib.Core.Path.{_≡_};
-ghost use Prim.Native.Nat.{_<_};
-ghost use lib.ListN.{length, getD};
-ghost use lib.Ieee.{binary64, ofBits, toBits};
-ghost use Rattle.total_order.specs.Order.{keyOf, totalOrder};
+ghost use lib.Ieee.{binary64, ofBits};
+ghost use Rattle.total_order.specs.Key.{keyOf};
+ghost use Rattle.total_order.specs.TotalOrder.{totalOrder};
+ghost use Rattle.total_order.specs.Three.{orderOf};
 
-// The number of a bit pattern; a NaN for every NaN pattern.
+// The places of three patterns in rising order.
+pub struct Order {
+    pub first: usize,
+    pub second: usize,
+    pub third: usize,
+}
+
+impl Order {
+    pub fn new(first: usize, second: usize, third: usize) -> Self
+        ensures { λ r. ⌜ r ≡ record { first = first; second = second; third = third } ⌝ }
+    {
+        Self {
+            first,
+            second,
+            third,
+        }
+    }
+}
+
+// The value of a bit pattern; a NaN for every NaN pattern, of which `from_bits` takes none.
 pub fn number(bits: u64) -> f64
     ensures { λ r. ⌜ r ≡ ofBits binary64 bits ⌝ }
 {
@@ -16,7 +36,7 @@ pub fn number(bits: u64) -> f64
     }
 }
 
-// The pattern as a signed integer whose low 63 bits are inverted when it is negative.
+// The pattern as a signed integer whose low 63 bits are inverted when it is negative. Signed comparison of keys is totalOrder.
 pub fn key(bits: u64) -> i64
     ensures { λ r. ⌜ r ≡ keyOf bits ⌝ }
 {
@@ -35,21 +55,27 @@ pub fn total_order(a: u64, b: u64) -> bool
     key(a) <= key(b)
 }
 
-// The pattern of a number; of a NaN, the quiet one with no payload.
-pub fn bits_of(x: f64) -> u64
-    ensures { λ r. ⌜ r ≡ toBits binary64 x ⌝ }
+// The order of three bit patterns, equal ones in the order of their places. Only neighbours are compared and swapped,
+// (0,1), (1,2) and (0,1) again: a swap of places 0 and 2 would carry one of two equal patterns past the other.
+pub fn order_of_three(a: u64, b: u64, c: u64) -> Order
+    ensures { λ r. ⌜ r ≡ orderOf a b c ⌝ }
 {
-    if x != x {
-        0x7ff8_0000_0000_0000
+    let ka = key(a);
+    let kb = key(b);
+    let kc = key(c);
+    if ka <= kb {
+        if kb <= kc {
+            Order::new(0, 1, 2)
+        } else if ka <= kc {
+            Order::new(0, 2, 1)
+        } else {
+            Order::new(2, 0, 1)
+        }
+    } else if ka <= kc {
+        Order::new(1, 0, 2)
+    } else if kb <= kc {
+        Order::new(1, 2, 0)
     } else {
-        f64::to_bits(x)
+        Order::new(2, 1, 0)
     }
-}
-
-// The key of the number of a lent list of patterns.
-pub fn key_at(eigen: &[u64], i: usize) -> i64
-    requires { ⌜ i < length (now eigen) ⌝ }
-    ensures { λ r. ⌜ r ≡ keyOf (getD (now (eigen .entry)) i 0) ⌝ }
-{
-    key(eigen[i])
 }

@@ -1,4 +1,5 @@
--- The signed order of keys is totalOrder. Assumes nothing.
+-- Signed comparison of keys is IEEE 754's totalOrder, for all 2 ^ 64 patterns. Assumes nothing.
+-- Two numbers are compared in units of the least positive one, 2 ^ -1074, in which a size's order is that of its pattern.
 use mathlib.Core.Path.{_≡_, refl, sym, ap, _∙_, subst}
 use mathlib.Core.Logic.{_⊎_, inl, inr, ⊎-elim}
 use mathlib.Core.Bool.{Bool, true, false, not, _&&_, _||_, cond}
@@ -14,7 +15,10 @@ use lib.Ieee.{Float, nan, inf, fin, binary64, up, down, odd, ofFields, ofBits, n
 use lib.Ieee.Exact.{HasValue, odd-sign}
 use lib.Ieee.Fits.{down-pos}
 use lib.Ieee.Bits.{nanBits-above}
-use Rattle.total_order.specs.Order.{side, keyOf, key-pos, key-neg, totalOrder, nanBelow}
+use Rattle.total_order.specs.Key.{keyOf}
+use Rattle.total_order.specs.TotalOrder.{totalOrder, nanBelow}
+use Rattle.total_order.proofs.KeyLaws.{side, size, sign, signed, key-is}
+use Rattle.total_order.proofs.NanPatterns.{top, is-nan, no-nan}
 
 -- ---- tests on scaled numbers
 
@@ -126,16 +130,6 @@ below-units true true m n = units-test n m
 
 -- ---- patterns
 
--- the pattern of an infinity, without its sign
-abbrev top : ℕ
-top = 0x7ff0_0000_0000_0000
-
-abbrev size : ℕ → ℕ
-size b = b % 2 ^ 63
-
-abbrev sign : ℕ → Bool
-sign b = leb (2 ^ 63) b
-
 digits-same : (b : ℕ) → b % 2 ^ 63 % 2 ^ 52 ≡ b % 2 ^ 52
 digits-same b = omega arith
 
@@ -202,17 +196,6 @@ number-lt a b h k = ⊎-elim
 
 -- ---- the theorem
 
--- the number of a sign and a size
-abbrev signed : Bool → ℕ → ℤ
-signed false m = pos m
-signed true m = negsuc m
-
-key-is : (b : ℕ) → b < 2 ^ 64 → keyOf b ≡ signed (sign b) (size b)
-key-is b h = ⊎-elim
-    (λ (l : b < 2 ^ 63). let e : size b ≡ b = omega arith in rw (key-pos b l, lt-leb (2 ^ 63) b l, e))
-    (λ (l : 2 ^ 63 ≤ b). let e : b - 2 ^ 63 ≡ size b = omega arith in rw (key-neg b l h, le-leb (2 ^ 63) b l, e))
-    (side b (2 ^ 63))
-
 same-leb : (x y u v : ℕ) → (x ≤ y → u ≤ v) → (y < x → v < u) → leb x y ≡ leb u v
 same-leb x y u v f g = ⊎-elim (λ (l : y < x). lt-leb x y l ∙ sym (lt-leb u v (g l))) (λ (l : x ≤ y). le-leb x y l ∙ sym (le-leb u v (f l))) (side y x)
 
@@ -264,12 +247,6 @@ nans false false m n x y e f = f
 nans false true m n x y e f = refl
 nans true false m n x y e f = refl
 nans true true m n x y e f = e
-
-is-nan : (b : ℕ) → top < size b → nanBits binary64 b ≡ true
-is-nan b h = nanBits-above binary64 b ∙ lt-ltb top (size b) h
-
-no-nan : (b : ℕ) → size b ≤ top → nanBits binary64 b ≡ false
-no-nan b h = nanBits-above binary64 b ∙ le-ltb top (size b) h
 
 -- signed comparison of keys is totalOrder
 pub key-orders : (a b : ℕ) → a < 2 ^ 64 → b < 2 ^ 64 → leZ (keyOf a) (keyOf b) ≡ totalOrder a b

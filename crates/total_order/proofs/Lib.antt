@@ -1,0 +1,5 @@
+pub mod KeyLaws
+pub mod NanPatterns
+pub mod KeyOrder
+pub mod OrderLaws
+pub mod ThreeLaws

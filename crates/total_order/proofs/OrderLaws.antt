@@ -1,0 +1,60 @@
+-- totalOrder is a total order of the patterns: reflexive, antisymmetric, transitive and total. Assumes nothing.
+use mathlib.Core.Path.{_≡_, refl, sym, ap, _∙_}
+use mathlib.Core.Bool.{Bool, true, false}
+use mathlib.Core.Logic.{_⊎_, inl, inr}
+use Prim.Native.Nat.{ℕ, _^_, _≤_, _<_}
+use native.Mathlib.Omega.{arith}
+use lib.IntN.{ℤ, pos, negsuc}
+use lib.Dec.{leb}
+use lib.Signed.{leZ, ltZ}
+use borrow.Author.Tests.{leb-true, leb-false, le-leb, lt-ltb, le-ltb}
+use Rattle.total_order.specs.Key.{keyOf}
+use Rattle.total_order.specs.TotalOrder.{totalOrder}
+use Rattle.total_order.proofs.KeyLaws.{key-apart}
+use Rattle.total_order.proofs.KeyOrder.{key-orders}
+
+-- ---- signed comparison
+
+pub le-refl : (x : ℤ) → leZ x x ≡ true
+le-refl (pos a) = le-leb a a (omega arith)
+le-refl (negsuc a) = le-leb a a (omega arith)
+
+pub le-antisym : (x y : ℤ) → leZ x y ≡ true → leZ y x ≡ true → x ≡ y
+le-antisym (pos a) (pos b) h k = ap pos (omega (arith, leb-true a b h, leb-true b a k))
+le-antisym (pos a) (negsuc b) h k = cc
+le-antisym (negsuc a) (pos b) h k = cc
+le-antisym (negsuc a) (negsuc b) h k = ap negsuc (omega (arith, leb-true b a h, leb-true a b k))
+
+pub le-trans : (x y z : ℤ) → leZ x y ≡ true → leZ y z ≡ true → leZ x z ≡ true
+le-trans (pos a) (pos b) (pos c) h k = le-leb a c (omega (arith, leb-true a b h, leb-true b c k))
+le-trans (pos a) (pos b) (negsuc c) h k = k
+le-trans (pos a) (negsuc b) z h k = cc
+le-trans (negsuc a) y (pos c) h k = refl
+le-trans (negsuc a) (pos b) (negsuc c) h k = cc
+le-trans (negsuc a) (negsuc b) (negsuc c) h k = le-leb c a (omega (arith, leb-true b a h, leb-true c b k))
+
+-- what is not at most y is above it
+pub le-false : (x y : ℤ) → leZ x y ≡ false → leZ y x ≡ true
+le-false (pos a) (pos b) h = le-leb b a (omega (arith, leb-false a b h))
+le-false (pos a) (negsuc b) h = refl
+le-false (negsuc a) (pos b) h = cc
+le-false (negsuc a) (negsuc b) h = le-leb a b (omega (arith, leb-false b a h))
+
+-- ---- totalOrder
+
+pub refl-order : (a : ℕ) → a < 2 ^ 64 → totalOrder a a ≡ true
+refl-order a h = sym (key-orders a a h h) ∙ le-refl (keyOf a)
+
+module _ (a b : ℕ) (h : a < 2 ^ 64) (k : b < 2 ^ 64) where
+  pub antisym-order : totalOrder a b ≡ true → totalOrder b a ≡ true → a ≡ b
+  antisym-order p q = key-apart a b h k (le-antisym (keyOf a) (keyOf b) (key-orders a b h k ∙ p) (key-orders b a k h ∙ q))
+
+  pub trans-order : (c : ℕ) → c < 2 ^ 64 → totalOrder a b ≡ true → totalOrder b c ≡ true → totalOrder a c ≡ true
+  trans-order c l p q = sym (key-orders a c h l) ∙ le-trans (keyOf a) (keyOf b) (keyOf c) (key-orders a b h k ∙ p) (key-orders b c k l ∙ q)
+
+  pub total-order : (totalOrder a b ≡ true) ⊎ (totalOrder b a ≡ true)
+  total-order = go (totalOrder a b) refl
+    where
+      go : (t : Bool) → totalOrder a b ≡ t → (totalOrder a b ≡ true) ⊎ (totalOrder b a ≡ true)
+      go true e = inl e
+      go false e = inr (sym (key-orders b a k h) ∙ le-false (keyOf a) (keyOf b) (key-orders a b h k ∙ e))
