@@ -1,15 +1,15 @@
--- `sqrtOf`, which computes, gives the `SquareRoot` of what it is given, and a value has one only. Assumes nothing.
+-- `sqrtOf`, which computes, gives the `IsSquareRoot` of what it is given, and a value has one only. Assumes nothing.
 use mathlib.Core.Path.{_≡_, refl, sym, ap, _∙_, subst}
-use mathlib.Core.Logic.{_⊎_, inl, inr}
+use mathlib.Core.Logic.{inl, inr}
 use Prim.Native.Nat.{ℕ, zero, suc, _+_, _-_, _*_, _/_, _%_, _^_, _≤_, _<_, zero-le, compare, Ordering, Ordering·lt, Ordering·eq, Ordering·gt}
-use native.Mathlib.Nat.{add-comm, lt-of-mul-lt-mul-right, mul-comm, mul-one, one-mul, mul-assoc, mul-mul-mul-comm, mul-le-mul-right, mul-le-mul-left, mul-lt-mul-of-pos-right, le-div-iff-mul-le, div-lt-iff-lt-mul, div-mul-le-self, lt-suc-self, le-refl, le-trans, le-of-eq, le-of-lt, le-of-suc-le-suc, lt-of-lt-of-le, lt-of-le-of-lt, lt-of-not-le, not-le-of-lt, eq-zero-or-pos, mul-pos, mul-div-cancel, mul-right-comm, pow-succ', pow-suc, suc-mul, zero-lt-suc}
+use native.Mathlib.Nat.{add-comm, lt-of-mul-lt-mul-right, mul-comm, mul-one, one-mul, mul-assoc, mul-mul-mul-comm, mul-le-mul-right, mul-le-mul-left, mul-lt-mul-of-pos-right, le-div-iff-mul-le, div-lt-iff-lt-mul, div-mul-le-self, lt-suc-self, le-refl, le-trans, le-of-eq, le-of-lt, lt-of-lt-of-le, lt-of-le-of-lt, lt-of-not-le, not-le-of-lt, eq-zero-or-pos, mul-pos, mul-div-cancel, mul-right-comm, pow-succ', pow-suc, suc-mul, zero-lt-suc}
 use native.Mathlib.Decide.{decLe}
 use native.Mathlib.Omega.{arith}
 use mathlib.Core.Bool.{Bool, true, false, not, _&&_, cond}
-use lib.IntN.{ℤ, pos}
+use lib.IntN.{ℤ}
 use lib.Dec.{T, leb, leb→le, nleb→lt, ltb, lt→ltb, ltb→lt, isLe, isEq, eqb, eqb→eq, eqb-refl}
 use lib.Arith.{lt-of-le-ne}
-use lib.Pow.{pow-add, pow-pos, pow-mono, pow-lt, shl-lt}
+use lib.Pow.{pow-add, pow-pos, pow-mono, pow-lt}
 use lib.Ieee.{Float, nan, inf, fin, Format, binary32, binary64, prec, emax, low, up, down, size, nearest, odd, units, fits, lt, hid, top, toBits, ofBits}
 use lib.Ieee.Digits.{size-lt, size-reaches, back}
 use lib.Ieee.Fits.{two, two-le-pos, kept-lt, nearest-le, odd-fits, down-pos, up-pos, and-r}
@@ -17,7 +17,7 @@ use lib.Ieee.Exact.{HasValue, units-val}
 use lib.Ieee.Bits.{is-true, ofBits-toBits}
 use lib.Ieee.Nearest.{div-same}
 use lib.Ieee.Positive.{num, den, first-pos}
-use Rattle.square_root.specs.Sqrt.{SquareRoot, Nearest}
+use Rattle.square_root.specs.SquareRoot.{IsSquareRoot, Nearest}
 use Rattle.square_root.specs.Steps.{Root}
 use Rattle.square_root.specs.Computed.{lastDigit, wholeRoot, roundRoot, sqrtOf}
 use Rattle.square_root.proofs.Karatsuba.{square, squares}
@@ -348,8 +348,8 @@ positive-root f m e t =
     (subst (λ (y : Float). Nearest f (fin false (suc m) e) y) (sym (round-is f n))
     (core-nearest f (fin false (suc m) e) (z .0) (z .1) (wholeRoot (size n) n) (refl, z .3) some (z .2) bound root))
 
-pub sqrtOf-is : (f : Format) (x : Float) → T (fits f x) → SquareRoot f x (sqrtOf f x)
-unfolding SquareRoot sqrtOf
+pub sqrtOf-is : (f : Format) (x : Float) → T (fits f x) → IsSquareRoot f x (sqrtOf f x)
+unfolding IsSquareRoot sqrtOf
 sqrtOf-is f nan t = refl
 sqrtOf-is f (inf true) t = refl
 sqrtOf-is f (inf false) t = refl
@@ -412,8 +412,8 @@ nearest-unique f x (fin false m e) (fin false n d) p q = go (order (m * up e * d
     go (same h) = same-value f m e n d (p .held) (q .held) h
     go (more h) = absurd (apart f x n d m e q p h)
 
-pub unique : (f : Format) (x r s : Float) → SquareRoot f x r → SquareRoot f x s → r ≡ s
-unfolding SquareRoot
+pub unique : (f : Format) (x r s : Float) → IsSquareRoot f x r → IsSquareRoot f x s → r ≡ s
+unfolding IsSquareRoot
 unique f nan r s p q = p ∙ sym q
 unique f (inf true) r s p q = p ∙ sym q
 unique f (inf false) r s p q = p ∙ sym q
@@ -422,6 +422,6 @@ unique f (fin true (suc m) e) r s p q = p ∙ sym q
 unique f (fin false zero e) r s p q = p ∙ sym q
 unique f (fin false (suc m) e) r s p q = nearest-unique f (fin false (suc m) e) r s p q
 
--- so what meets `SquareRoot` is what `sqrtOf` computes
-pub computes : (f : Format) (x r : Float) → T (fits f x) → SquareRoot f x r → r ≡ sqrtOf f x
+-- so what meets `IsSquareRoot` is what `sqrtOf` computes
+pub computes : (f : Format) (x r : Float) → T (fits f x) → IsSquareRoot f x r → r ≡ sqrtOf f x
 computes f x r t p = unique f x r (sqrtOf f x) p (sqrtOf-is f x t)

@@ -1,12 +1,9 @@
 -- `root54`, in the numbers that it computes with: n of 53 or 54 digits, s the whole part of its root. Assumes nothing.
-use mathlib.Core.Path.{_≡_, refl, sym, ap, _∙_, subst}
+use mathlib.Core.Path.{_≡_, sym, ap, _∙_, subst}
 use Prim.Native.Nat.{ℕ, zero, suc, _+_, _-_, _*_, _/_, _%_, _^_, _≤_, _<_}
-use native.Mathlib.Nat.{mul-comm, mul-le-mul-left, mul-le-mul-right, le-of-mul-le-mul-right, le-trans, le-of-eq, le-of-lt, lt-of-lt-of-le, lt-of-le-of-lt, lt-of-not-le, le-of-suc-le-suc, not-le-of-lt, mul-pos, div-add-mod', mod-lt, mod-eq-of-lt, div-lt-iff-lt-mul}
+use native.Mathlib.Nat.{le-trans, lt-of-lt-of-le, lt-of-not-le, le-of-suc-le-suc, not-le-of-lt, div-add-mod', mod-lt, div-lt-iff-lt-mul}
 use native.Mathlib.Omega.{arith}
-use lib.Dec.{lit<, lit≤}
-use mir.Syntax.{w64}
-use mir.Val.{Fits}
-use mir.Facts.{fits-bits, fits-below}
+use lib.Dec.{lit<}
 use Rattle.square_root.specs.Steps.{Root}
 use Rattle.square_root.proofs.Karatsuba.{square, squares, as-it-is, one-less}
 

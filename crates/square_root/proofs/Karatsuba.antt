@@ -1,11 +1,9 @@
 -- A root's lower half of digits from its upper half, after Zimmermann. n is s * s + r, with s the whole part of its root; b is the base, and s has its leading digit set: b ≤ 2 * s.
 -- With r * b ≡ q * (2 * s) + u and u < 2 * s, the whole part of the root of n * (b * b) is s * b + q, or one less where u * b < q * q. Assumes nothing.
 use mathlib.Core.Path.{_≡_, refl, sym, ap, _∙_, subst}
-use Prim.Native.Nat.{ℕ, zero, suc, _+_, _-_, _*_, _/_, _%_, _^_, _≤_, _<_}
-use native.Mathlib.Nat.{add-comm, add-assoc, add-left-comm, two-mul, mul-one, mul-comm, mul-assoc, mul-left-comm, mul-add, add-mul, mul-le-mul, mul-le-mul-left, mul-le-mul-right, le-of-mul-le-mul-right, mul-lt-mul-of-pos-right, le-trans, le-of-eq, le-of-lt, lt-of-lt-of-le, lt-of-le-of-lt, lt-of-not-le, not-le-of-lt, div-add-mod', mod-lt}
+use Prim.Native.Nat.{ℕ, _+_, _-_, _*_, _≤_, _<_}
+use native.Mathlib.Nat.{add-comm, add-assoc, add-left-comm, two-mul, mul-one, mul-comm, mul-assoc, mul-left-comm, mul-add, add-mul, mul-le-mul, mul-le-mul-right, le-of-mul-le-mul-right, mul-lt-mul-of-pos-right, le-trans, le-of-eq}
 use native.Mathlib.Omega.{arith}
-use lib.Dec.{lit<, lit≤}
-use lib.Pow.{shl-exact}
 use Rattle.square_root.specs.Steps.{Root}
 
 pub square : (x y : ℕ) → (x + y) * (x + y) ≡ x * x + 2 * (x * y) + y * y

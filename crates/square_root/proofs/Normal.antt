@@ -1,10 +1,10 @@
 -- `pack` and `sqrt_bits`: shifts that lose nothing, and the number that a bit pattern stands for as m * 2 ^ l with m of 53 digits. Assumes nothing.
-use mathlib.Core.Path.{_≡_, refl, sym, ap, _∙_, subst}
+use mathlib.Core.Path.{_≡_, sym, ap, _∙_, subst}
 use Prim.Native.Nat.{ℕ, zero, suc, _+_, _-_, _*_, _/_, _%_, _^_, _≤_, _<_}
-use native.Mathlib.Nat.{mul-one, mul-comm, mul-assoc, add-comm, mul-le-mul-right, mul-lt-mul-of-pos-right, le-trans, le-of-eq, lt-of-lt-of-le, lt-of-le-of-lt, lt-of-not-le, not-le-of-lt, mod-lt, mod-eq-of-lt, pow-succ'}
+use native.Mathlib.Nat.{mul-assoc, add-comm, mul-le-mul-right, mul-lt-mul-of-pos-right, le-trans, le-of-eq, lt-of-lt-of-le, lt-of-le-of-lt, lt-of-not-le, not-le-of-lt, mod-lt, mod-eq-of-lt}
 use native.Mathlib.Omega.{arith}
 use mathlib.Core.Bool.{cond}
-use lib.Dec.{T, ltb, lit<, lit≤, lt→ltb}
+use lib.Dec.{ltb, lit<, lit≤, lt→ltb}
 use lib.Arith.{le→nltb}
 use lib.Pow.{pow-add, pow-pos, pow-mono}
 use lib.Bits.{bitAnd, and-mask}

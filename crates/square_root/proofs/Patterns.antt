@@ -1,13 +1,12 @@
 -- The bit patterns of binary64: what number the pattern of a positive finite value stands for, and what `sqrt` returns at each pattern. Assumes nothing.
 use mathlib.Core.Path.{_≡_, refl, sym, ap, _∙_, subst}
-use mathlib.Core.Logic.{_⊎_, inl, inr}
 use Prim.Native.Nat.{ℕ, zero, suc, _+_, _-_, _*_, _/_, _%_, _^_, _≤_, _<_}
-use native.Mathlib.Nat.{mul-one, one-mul, le-trans, lt-of-lt-of-le, not-le-of-lt, lt-of-not-le, mod-eq-of-lt, mul-pos, pow-succ'}
+use native.Mathlib.Nat.{mul-one, one-mul, lt-of-lt-of-le, not-le-of-lt, lt-of-not-le, mod-eq-of-lt, mul-pos, pow-succ'}
 use native.Mathlib.Decide.{decLe}
 use native.Mathlib.Omega.{arith}
 use mathlib.Core.Bool.{Bool, true, false, not, cond, true≢false, false≢true}
 use lib.IntN.{ℤ, pos, negsuc}
-use lib.Dec.{T, leb, ltb, eqb, leb→le, le→leb, lt→ltb, eqb→eq, not-T, lit<, lit≤}
+use lib.Dec.{T, leb, ltb, eqb, leb→le, le→leb, lt→ltb, eqb→eq, not-T, lit<}
 use lib.Arith.{le→nltb}
 use lib.Pow.{pow-pos}
 use lib.Ieee.{Float, nan, inf, fin, binary64, up, down, odd, ofFields, ofBits, toBits, nanBits, isNan, fits, ne}
@@ -15,7 +14,7 @@ use lib.Ieee.Compare.{differs-from-itself, nan-differs}
 use lib.Ieee.Bits.{is-true, is-false, cond-no, ofBits-toBits, ofBits-fits, nanBits-is}
 use lib.Ieee.Exact.{HasValue, odd-sign}
 use lib.Ieee.Positive.{positive, positive-of-value}
-use Rattle.square_root.specs.Sqrt.{SquareRoot, Nearest}
+use Rattle.square_root.specs.SquareRoot.{IsSquareRoot, Nearest}
 use Rattle.square_root.specs.Steps.{RootBits, unitsOf}
 use Rattle.square_root.proofs.Gap.{Nearby}
 use Rattle.square_root.proofs.Values.{nearest}
@@ -113,9 +112,9 @@ module _ (n r : ℕ) (w : RootBits n r) where
   pub root-no-nan : T (not (nanBits binary64 r))
   root-no-nan = subst (λ (t : Bool). T (not t)) (sym (nanBits-is binary64 r)) (no-nan (ofBits binary64 r) (w .q * 2 ^ w .k) (2 ^ 1074) root-value)
 
--- ---- `SquareRoot` at a value that is finite and above zero
-positive-root : (x r : Float) → T (positive x) → Nearest binary64 x r → SquareRoot binary64 x r
-unfolding SquareRoot
+-- ---- `IsSquareRoot` at a value that is finite and above zero
+positive-root : (x r : Float) → T (positive x) → Nearest binary64 x r → IsSquareRoot binary64 x r
+unfolding IsSquareRoot
 positive-root nan r p h = absurd p
 positive-root (inf s) r p h = absurd p
 positive-root (fin true m e) r p h = absurd p
@@ -133,36 +132,36 @@ units-pos b h = go (ltb b (2 ^ 52))
         lead : (t : ℕ) → 0 < 2 ^ 52 + t
         lead t = omega arith
 
-pub main : (b r : ℕ) → 0 < b → b < 0x7ff0_0000_0000_0000 → RootBits (unitsOf b * 2 ^ 1074) r → SquareRoot binary64 (ofBits binary64 b) (ofBits binary64 r)
+pub main : (b r : ℕ) → 0 < b → b < 0x7ff0_0000_0000_0000 → RootBits (unitsOf b * 2 ^ 1074) r → IsSquareRoot binary64 (ofBits binary64 b) (ofBits binary64 r)
 main b r some h w =
     let n = unitsOf b * 2 ^ 1074 in
     positive-root (ofBits binary64 b) (ofBits binary64 r) (positive-of-value (ofBits binary64 b) (unitsOf b) (2 ^ 1074) (bits-value b h) (units-pos b some))
     (nearest binary64 (ofBits binary64 b) (ofBits binary64 r) (unitsOf b) (w .k) (w .q) (bits-value b h) (root-value n r w) (nearby n r w) (ofBits-fits binary64 r))
 
 -- ---- the other patterns
-pub at-nan : SquareRoot binary64 nan nan
-unfolding SquareRoot
+pub at-nan : IsSquareRoot binary64 nan nan
+unfolding IsSquareRoot
 at-nan = refl
 
-pub at-plus-zero : SquareRoot binary64 (ofBits binary64 0) (ofBits binary64 0)
-unfolding SquareRoot ofBits
+pub at-plus-zero : IsSquareRoot binary64 (ofBits binary64 0) (ofBits binary64 0)
+unfolding IsSquareRoot ofBits
 at-plus-zero = refl
 
-pub at-minus-zero : SquareRoot binary64 (ofBits binary64 (2 ^ 63)) (ofBits binary64 (2 ^ 63))
-unfolding SquareRoot ofBits
+pub at-minus-zero : IsSquareRoot binary64 (ofBits binary64 (2 ^ 63)) (ofBits binary64 (2 ^ 63))
+unfolding IsSquareRoot ofBits
 at-minus-zero = refl
 
-ones-field : (t : ℕ) → SquareRoot binary64 (ofFields binary64 false 2047 t) (ofFields binary64 false 2047 t)
-unfolding SquareRoot ofFields
+ones-field : (t : ℕ) → IsSquareRoot binary64 (ofFields binary64 false 2047 t) (ofFields binary64 false 2047 t)
+unfolding IsSquareRoot ofFields
 ones-field t = go (eqb t 0)
   where
-    go : (a : Bool) → SquareRoot binary64 (cond a (inf false) nan) (cond a (inf false) nan)
+    go : (a : Bool) → IsSquareRoot binary64 (cond a (inf false) nan) (cond a (inf false) nan)
     go true = refl
     go false = refl
 
-pub at-top : (b : ℕ) → 0x7ff0_0000_0000_0000 ≤ b → b < 2 ^ 63 → SquareRoot binary64 (ofBits binary64 b) (ofBits binary64 b)
+pub at-top : (b : ℕ) → 0x7ff0_0000_0000_0000 ≤ b → b < 2 ^ 63 → IsSquareRoot binary64 (ofBits binary64 b) (ofBits binary64 b)
 at-top b l h =
-    subst (λ (x : Float). SquareRoot binary64 x x) (sym (sign-clear b h ∙ ap (λ (x : ℕ). ofFields binary64 false x (b % 2 ^ 52)) (field b l h))) (ones-field (b % 2 ^ 52))
+    subst (λ (x : Float). IsSquareRoot binary64 x x) (sym (sign-clear b h ∙ ap (λ (x : ℕ). ofFields binary64 false x (b % 2 ^ 52)) (field b l h))) (ones-field (b % 2 ^ 52))
   where
     field : (b : ℕ) → 0x7ff0_0000_0000_0000 ≤ b → b < 2 ^ 63 → b / 2 ^ 52 ≡ 2047
     field b l h = omega arith
@@ -200,8 +199,8 @@ minus-zero-bits : toBits binary64 (fin true 0 (pos 0)) ≡ 2 ^ 63
 unfolding toBits
 minus-zero-bits = refl
 
-by-sign : (x : Float) → T (fits binary64 x) → (toBits binary64 x ≡ 2 ^ 63 → ⊥) → sign x ≡ true → SquareRoot binary64 x nan
-unfolding SquareRoot fits
+by-sign : (x : Float) → T (fits binary64 x) → (toBits binary64 x ≡ 2 ^ 63 → ⊥) → sign x ≡ true → IsSquareRoot binary64 x nan
+unfolding IsSquareRoot fits
 by-sign nan h n s = refl
 by-sign (inf true) h n s = refl
 by-sign (inf false) h n s = absurd (false≢true s)
@@ -209,7 +208,7 @@ by-sign (fin true zero e) h n s = absurd (n (ap (λ (d : ℤ). toBits binary64 (
 by-sign (fin true (suc m) e) h n s = refl
 by-sign (fin false m e) h n s = absurd (false≢true s)
 
-pub below-zero : (x : Float) → T (fits binary64 x) → 2 ^ 63 ≤ toBits binary64 x → (toBits binary64 x ≡ 2 ^ 63 → ⊥) → SquareRoot binary64 x nan
+pub below-zero : (x : Float) → T (fits binary64 x) → 2 ^ 63 ≤ toBits binary64 x → (toBits binary64 x ≡ 2 ^ 63 → ⊥) → IsSquareRoot binary64 x nan
 below-zero x h l n =
     let b = toBits binary64 x in
     by-sign x h n (ap sign (sym (ofBits-toBits binary64 x h) ∙ sign-set b l) ∙ sign-fields (b % 2 ^ 63 / 2 ^ 52) (b % 2 ^ 52))

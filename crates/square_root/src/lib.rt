@@ -1,9 +1,7 @@
 // The square root of an f64, correctly rounded, worked out on integers.
 ghost use mathlib.Core.Path.{_≡_};
 ghost use Prim.Native.Nat.{_+_, _-_, _*_, _^_, _≤_, _<_};
-ghost use lib.Ieee.{binary64};
-ghost use Rattle.square_root.specs.Sqrt.{SquareRoot};
-ghost use Rattle.square_root.specs.Computed.{sqrtOf};
+ghost use Rattle.square_root.specs.Computed.{squareRoot};
 ghost use Rattle.square_root.specs.Steps.{Root, RootBits, unitsOf};
 
 // c0 - c1 * t + c2 * t^2, for t of 32 places after the point and the others of 28, to 14 places.
@@ -31,15 +29,24 @@ fn inverse_root(t: u64) -> u64
     (y * d) >> 16
 }
 
-// The largest r with r * r <= n, from any guess s.
-fn settle(n: u64, s: u64) -> u64
-    requires { ⌜ (n < 2 ^ 54) × (s < 2 ^ 27) ⌝ }
-    ensures { λ r. ⌜ Root n r ⌝ }
+// A number at most s whose square is at most n.
+fn at_most(n: u64, s: u64) -> u64
+    requires { ⌜ s < 2 ^ 27 ⌝ }
+    ensures { λ r. ⌜ r * r ≤ n ⌝ }
 {
     let mut r = s;
     while n < r * r {
         r -= 1;
     }
+    r
+}
+
+// The largest r with r * r <= n, from any guess s. From `root27`'s guesses neither loop takes more than one step, for any n.
+fn settle(n: u64, s: u64) -> u64
+    requires { ⌜ (n < 2 ^ 54) × (s < 2 ^ 27) ⌝ }
+    ensures { λ r. ⌜ Root n r ⌝ }
+{
+    let mut r = at_most(n, s);
     while (r + 1) * (r + 1) <= n {
         r += 1;
     }
@@ -97,9 +104,11 @@ fn sqrt_bits(b: u64) -> u64
     }
 }
 
-// IEEE 754's squareRoot: -0 for -0, a NaN for a NaN and for what is below zero.
+// IEEE 754's squareRoot: -0 for -0, a NaN for a NaN and for what is below zero, and otherwise the value nearest to the root.
+// Two values are never equally near: their mean would be a root of one binary digit more than they have, and the square of such
+// a number has too many digits to be x. So the rule for ties, to the even value, has nothing to decide.
 pub fn sqrt(x: f64) -> f64
-    ensures { λ r. ⌜ SquareRoot binary64 x r ⌝ }
+    ensures { λ r. ⌜ r ≡ squareRoot x ⌝ }
 {
     if x != x {
         x
@@ -119,12 +128,4 @@ pub fn sqrt(x: f64) -> f64
             f64::from_bits(sqrt_bits(b))
         }
     }
-}
-
-// The same for C and Rust, said by the definition that computes.
-#[no_mangle]
-pub extern "C" fn sqrt_f64(x: f64) -> f64
-    ensures { λ r. ⌜ r ≡ sqrtOf binary64 x ⌝ }
-{
-    sqrt(x)
 }

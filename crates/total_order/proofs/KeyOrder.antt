@@ -1,20 +1,18 @@
 -- Signed comparison of keys is IEEE 754's totalOrder, for all 2 ^ 64 patterns. Assumes nothing.
 -- Two numbers are compared in units of the least positive one, 2 ^ -1074, in which a size's order is that of its pattern.
 use mathlib.Core.Path.{_≡_, refl, sym, ap, _∙_, subst}
-use mathlib.Core.Logic.{_⊎_, inl, inr, ⊎-elim}
+use mathlib.Core.Logic.{_⊎_, ⊎-elim}
 use mathlib.Core.Bool.{Bool, true, false, not, _&&_, _||_, cond}
 use Prim.Native.Nat.{ℕ, zero, suc, _+_, _-_, _*_, _/_, _%_, _^_, _≤_, _<_}
-use native.Mathlib.Nat.{mul-lt-mul-of-pos-right, mul-le-mul-right, mul-le-mul-left, mul-pos, mul-assoc, mul-comm, mul-right-comm, add-mul, zero-mul, div-add-mod', mod-lt, le-trans, le-refl, le-of-lt, lt-of-lt-of-le, eq-or-lt-of-le, le-of-suc-le-suc, mod-eq-of-lt, pow-succ'}
+use native.Mathlib.Nat.{mul-lt-mul-of-pos-right, mul-le-mul-right, mul-le-mul-left, mul-pos, mul-assoc, mul-comm, mul-right-comm, add-mul, zero-mul, le-trans, le-refl, le-of-lt, lt-of-lt-of-le, eq-or-lt-of-le, le-of-suc-le-suc, pow-succ'}
 use native.Mathlib.Omega.{arith}
-use lib.Dec.{T, ltb, leb, eqb}
+use lib.Dec.{ltb, leb}
 use lib.Pow.{pow-pos, pow-mono}
-use lib.IntN.{ℤ, pos, negsuc}
 use lib.Signed.{leZ}
-use borrow.Author.Tests.{ne-eqb, lt-ltb, le-ltb, ltb-true, ltb-false, le-leb, lt-leb}
-use lib.Ieee.{Float, nan, inf, fin, binary64, up, down, odd, ofFields, ofBits, nanBits, lt, below}
+use borrow.Author.Tests.{ne-eqb, lt-ltb, le-ltb, le-leb, lt-leb}
+use lib.Ieee.{Float, nan, inf, fin, binary64, up, down, ofFields, ofBits, lt, below}
 use lib.Ieee.Exact.{HasValue, odd-sign}
 use lib.Ieee.Fits.{down-pos}
-use lib.Ieee.Bits.{nanBits-above}
 use Rattle.total_order.specs.Key.{keyOf}
 use Rattle.total_order.specs.TotalOrder.{totalOrder, nanBelow}
 use Rattle.total_order.proofs.KeyLaws.{side, size, sign, signed, key-is}

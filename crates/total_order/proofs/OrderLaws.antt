@@ -2,12 +2,11 @@
 use mathlib.Core.Path.{_≡_, refl, sym, ap, _∙_}
 use mathlib.Core.Bool.{Bool, true, false}
 use mathlib.Core.Logic.{_⊎_, inl, inr}
-use Prim.Native.Nat.{ℕ, _^_, _≤_, _<_}
+use Prim.Native.Nat.{ℕ, _^_, _<_}
 use native.Mathlib.Omega.{arith}
 use lib.IntN.{ℤ, pos, negsuc}
-use lib.Dec.{leb}
-use lib.Signed.{leZ, ltZ}
-use borrow.Author.Tests.{leb-true, leb-false, le-leb, lt-ltb, le-ltb}
+use lib.Signed.{leZ}
+use borrow.Author.Tests.{leb-true, leb-false, le-leb}
 use Rattle.total_order.specs.Key.{keyOf}
 use Rattle.total_order.specs.TotalOrder.{totalOrder}
 use Rattle.total_order.proofs.KeyLaws.{key-apart}

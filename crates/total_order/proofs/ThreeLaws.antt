@@ -1,14 +1,13 @@
 -- The order of three: what each outcome of the three comparisons gives, and that the places rise. Assumes nothing.
-use mathlib.Core.Path.{_≡_, refl, sym, ap, _∙_}
+use mathlib.Core.Path.{_≡_, refl, ap, _∙_}
 use mathlib.Core.Bool.{Bool, true, false, not, _&&_, _||_}
-use Prim.Native.Nat.{ℕ, _<_, _≤_}
+use Prim.Native.Nat.{ℕ, _<_}
 use native.Mathlib.Omega.{arith}
 use lib.IntN.{ℤ, pos, negsuc}
 use lib.Dec.{ltb, leb}
 use lib.Signed.{leZ, ltZ}
-use borrow.Author.Tests.{lt-ltb, le-ltb, le-leb, lt-leb, leb-true, leb-false}
+use borrow.Author.Tests.{lt-ltb, le-ltb, leb-true, leb-false}
 use Rattle.total_order.specs.Three.{keyAt, before, orderBy, orderOf, Rises}
-use Rattle.total_order.specs.declared.Order.{Order}
 use Rattle.total_order.proofs.OrderLaws.{le-refl, le-trans, le-false}
 
 -- ---- before, between a lesser place and a greater one

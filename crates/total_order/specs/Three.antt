@@ -1,6 +1,6 @@
 -- The order of three bit patterns: which place comes first, second and third, least by key, then by place. Definitions only.
 use mathlib.Core.Path.{_≡_}
-use mathlib.Core.Bool.{Bool, true, false, _&&_, _||_, cond}
+use mathlib.Core.Bool.{Bool, true, _&&_, _||_, cond}
 use Prim.Native.Nat.{ℕ, zero, suc, _<_}
 use lib.IntN.{ℤ}
 use lib.Signed.{ltZ, leZ}

@@ -1,11 +1,11 @@
 -- `square_root::inverse_root` meets its contract: each number fits. Assumes nothing.
-use Prim.Native.Nat.{ℕ, _+_, _-_, _*_, _/_, _^_, _≤_, _<_}
-use native.Mathlib.Nat.{lt-of-lt-of-le, le-of-lt}
+use Prim.Native.Nat.{ℕ, _-_, _*_, _/_, _^_, _≤_, _<_}
+use native.Mathlib.Nat.{lt-of-lt-of-le}
 use native.Mathlib.Omega.{arith}
 use mathlib.Core.Logic.{⊎-elim}
-use lib.Dec.{lit<, lit≤}
+use lib.Dec.{lit≤}
 use lib.Pow.{shr-lt}
-use lib.Bits.{bitAnd, mask-lt}
+use lib.Bits.{mask-lt}
 use mir.Facts.{fits-bits}
 use borrow.Author.Needs.{needs}
 use Rattle.square_root.proofs.Products.{mul-lt-pow, product}

@@ -1,15 +1,12 @@
 -- `square_root::parabola` meets its contract. Assumes nothing.
-use Prim.Native.Nat.{ℕ, _+_, _-_, _*_, _/_, _^_, _≤_, _<_}
+use Prim.Native.Nat.{ℕ, _-_, _*_, _/_, _^_, _≤_, _<_}
 use native.Mathlib.Nat.{le-trans, lt-of-le-of-lt, le-of-lt, mul-le-mul-left, mul-le-mul-right, le-of-eq, sub-le, mul-comm, div-lt-iff-lt-mul}
 use native.Mathlib.Omega.{arith}
-use lib.Dec.{lit<}
 use lib.Pow.{pow-pos}
 use borrow.Author.Needs.{needs}
-use Rattle.square_root.proofs.Products.{mul-lt-pow, product}
+use Rattle.square_root.proofs.Products.{product}
 use Rattle.square_root.proofs.parabola.Statement.{statement}
 use Rattle.square_root.proofs.parabola.Tie as tie
-use Rattle.square_root.proofs.parabola.Reads as reads
-use Rattle.square_root.proofs.parabola.Lts as lts
 
 mul-v : tie.Need-mul-v
 mul-v c = product (c .pre .0) (lt-of-le-of-lt (c .pre .3) (c .pre .2))

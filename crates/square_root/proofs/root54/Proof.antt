@@ -1,9 +1,8 @@
 -- `square_root::root54` meets its contract: `Halves.antt`. Assumes nothing.
-use mathlib.Core.Path.{_≡_, refl, sym, ap, _∙_, subst}
+use mathlib.Core.Path.{_≡_, refl, sym, subst}
 use Prim.Native.Nat.{ℕ, _+_, _-_, _*_, _/_, _%_, _^_, _≤_, _<_}
-use native.Mathlib.Nat.{lt-of-le-of-lt, mul-le-mul, le-trans, le-of-eq}
+use native.Mathlib.Nat.{mul-le-mul}
 use native.Mathlib.Omega.{arith}
-use lib.Dec.{lit<, lit≤}
 use mir.Syntax.{w64}
 use mir.Val.{Fits}
 use mir.Facts.{fits-below}
@@ -12,9 +11,6 @@ use Rattle.square_root.specs.Steps.{Root}
 use Rattle.square_root.proofs.Halves as H
 use Rattle.square_root.proofs.root54.Statement.{statement}
 use Rattle.square_root.proofs.root54.Tie as tie
-use Rattle.square_root.proofs.root54.Reads as reads
-use Rattle.square_root.proofs.root54.Lts as lts
-use Rattle.square_root.proofs.root27.Reads as root27-reads
 
 -- the locals, as the code has them
 abbrev up : (n s : ℕ) → ℕ

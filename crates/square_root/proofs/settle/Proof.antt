@@ -1,101 +1,50 @@
--- `square_root::settle` meets its contract. The first loop keeps r below 2 ^ 27, and ends where r * r is at most n, which the second keeps. Assumes nothing.
-use Prim.Native.Nat.{ℕ, zero, suc, _+_, _-_, _*_, _^_, _≤_, _<_}
-use native.Mathlib.Nat.{le-trans, lt-of-lt-of-le, lt-of-not-le, not-le-of-lt, not-suc-le-zero, zero-lt-suc}
+-- `square_root::settle` meets its contract: r rises while the next square is at most n, below 2 ^ 27 as n is below 2 ^ 54. Assumes nothing.
+use Prim.Native.Nat.{ℕ, _+_, _-_, _*_, _^_, _≤_, _<_}
+use native.Mathlib.Nat.{le-trans, lt-of-not-le, not-le-of-lt}
 use native.Mathlib.Omega.{arith}
-use lib.Dec.{lit≤}
-use mir.Syntax.{w64}
-use mir.Val.{Fits}
 use Rattle.square_root.proofs.Karatsuba.{squares}
-use Rattle.square_root.proofs.Products.{product}
+use Rattle.square_root.proofs.Products.{square-fits}
 use Rattle.square_root.proofs.settle.Statement.{statement}
 use Rattle.square_root.proofs.settle.Tie as tie
-use Rattle.square_root.proofs.settle.Reads as reads
-use Rattle.square_root.proofs.settle.Lts as lts
 
 abbrev Inv-loop : tie.InvT-loop
-Inv-loop n s r₀ r = r < 2 ^ 27
+Inv-loop n s r₀ r = (n < 2 ^ 54) × (r * r ≤ n)
 
 abbrev μ-loop : tie.MeasureT-loop
-μ-loop n s r₀ r = r
-
-abbrev Inv-loop2 : tie.InvT-loop2
-Inv-loop2 n s r₀ r = r * r ≤ n
-
-abbrev μ-loop2 : tie.MeasureT-loop2
-μ-loop2 n s r₀ r = 2 ^ 27 - r
-
--- a number whose square is above another is above 0
-sq-pos : (n r : ℕ) → n < r * r → zero < r
-sq-pos n zero h = absurd (not-suc-le-zero h)
-sq-pos n (suc k) h = zero-lt-suc k
+μ-loop n s r₀ r = 2 ^ 27 - r
 
 -- the root of a number below 2 ^ 54
-root-lt : (n r : ℕ) → n < 2 ^ 54 → r * r ≤ n → r < 2 ^ 27
-root-lt n r h l = lt-of-not-le (λ (g : 2 ^ 27 ≤ r). not-le-of-lt h (le-trans (squares g) l))
+root-lt : (n r : ℕ) → (n < 2 ^ 54) × (r * r ≤ n) → r < 2 ^ 27
+root-lt n r h = lt-of-not-le (λ (g : 2 ^ 27 ≤ r). not-le-of-lt (h .0) (le-trans (squares g) (h .1)))
 
-square-fits : (r : ℕ) → r ≤ 2 ^ 27 → Fits w64 (r * r)
-square-fits r h = let g : r < 2 ^ 32 = omega arith in product g g
+at-most-requires : tie.Need-at-most-requires Inv-loop μ-loop
+at-most-requires c κs = c .pre .1
 
-loop-holds : tie.Need-loop-holds Inv-loop μ-loop Inv-loop2 μ-loop2
-loop-holds c = c .pre .1
+loop-holds : tie.Need-loop-holds Inv-loop μ-loop
+loop-holds c = (c .before .pre .0, c .at-most .ensures)
 
-mul-loop : tie.Need-mul-loop Inv-loop μ-loop Inv-loop2 μ-loop2
-mul-loop c = square-fits (c .loop .r) (let h = c .loop .inv in omega arith)
+add-loop : tie.Need-add-loop Inv-loop μ-loop
+add-loop c = omega (arith, root-lt _ (c .loop .r) (c .loop .inv))
 
-sub-r : tie.Need-sub-r Inv-loop μ-loop Inv-loop2 μ-loop2
-sub-r c = sq-pos (c .before .before .args .n) (c .before .loop .r) (c .loop-test .taken)
+add-loop-2 : tie.Need-add-loop-2 Inv-loop μ-loop
+add-loop-2 c = omega (arith, root-lt _ (c .loop .r) (c .loop .inv))
 
-loop-less : tie.Need-loop-less Inv-loop μ-loop Inv-loop2 μ-loop2
-loop-less c = omega (arith, sq-pos (c .before .before .args .n) (c .before .loop .r) (c .loop-test .taken))
+mul-loop : tie.Need-mul-loop Inv-loop μ-loop
+mul-loop c = square-fits (c .loop .r + 1) (omega (arith, root-lt _ (c .loop .r) (c .loop .inv)))
 
-loop-again : tie.Need-loop-again Inv-loop μ-loop Inv-loop2 μ-loop2
-loop-again c = omega arith
+add-r : tie.Need-add-r Inv-loop μ-loop
+add-r c = omega (arith, root-lt _ (c .before .loop .r) (c .before .loop .inv))
 
-loop2-holds : tie.Need-loop2-holds Inv-loop μ-loop Inv-loop2 μ-loop2
-loop2-holds c = c .loop-test .left
+loop-less : tie.Need-loop-less Inv-loop μ-loop
+loop-less c = omega (arith, root-lt _ (c .before .loop .r) (c .before .loop .inv))
 
-low : (c : lts.At-loop2 reads.Pre reads.Post Inv-loop μ-loop Inv-loop2 μ-loop2) → c .loop2 .r < 2 ^ 27
-low c = root-lt (c .before .before .before .args .n) (c .loop2 .r) (c .before .before .before .pre .0) (c .loop2 .inv)
+loop-again : tie.Need-loop-again Inv-loop μ-loop
+loop-again c = (c .before .loop .inv .0, c .loop-test .taken)
 
-add-loop2 : tie.Need-add-loop2 Inv-loop μ-loop Inv-loop2 μ-loop2
-add-loop2 c = omega (arith, low c)
-
-add-loop2-2 : tie.Need-add-loop2-2 Inv-loop μ-loop Inv-loop2 μ-loop2
-add-loop2-2 c = omega (arith, low c)
-
-mul-loop2 : tie.Need-mul-loop2 Inv-loop μ-loop Inv-loop2 μ-loop2
-mul-loop2 c = square-fits (c .loop2 .r + 1) (omega (arith, low c))
-
-add-r : tie.Need-add-r Inv-loop μ-loop Inv-loop2 μ-loop2
-add-r c = omega (arith, low (c .before))
-
-loop2-less : tie.Need-loop2-less Inv-loop μ-loop Inv-loop2 μ-loop2
-loop2-less c = omega (arith, low (c .before))
-
-loop2-again : tie.Need-loop2-again Inv-loop μ-loop Inv-loop2 μ-loop2
-loop2-again c = c .loop2-test .taken
-
-returns : tie.Need-returns Inv-loop μ-loop Inv-loop2 μ-loop2
-returns c = record { low = c .before .loop2 .inv; high = c .loop2-test .left }
+returns : tie.Need-returns Inv-loop μ-loop
+returns c = record { low = c .before .loop .inv .1; high = c .loop-test .left }
 
 pub settle-spec : {M : Type 1} → statement M
 settle-spec =
     tie.close
-    (tie.spec
-    Inv-loop
-    μ-loop
-    Inv-loop2
-    μ-loop2
-    loop-holds
-    mul-loop
-    sub-r
-    loop-less
-    loop-again
-    loop2-holds
-    add-loop2
-    add-loop2-2
-    mul-loop2
-    add-r
-    loop2-less
-    loop2-again
-    returns)
+    (tie.spec Inv-loop μ-loop at-most-requires loop-holds add-loop add-loop-2 mul-loop add-r loop-less loop-again returns)

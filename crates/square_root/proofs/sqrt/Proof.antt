@@ -1,30 +1,32 @@
 -- `square_root::sqrt` meets its contract: `Patterns.antt` has each case. Assumes nothing.
 use mathlib.Core.Path.{_≡_, refl, sym, ap, _∙_, subst}
-use Prim.Native.Nat.{ℕ, _^_, _≤_, _<_}
-use native.Mathlib.Nat.{lt-of-not-le}
+use Prim.Native.Nat.{ℕ, _^_, _<_}
 use native.Mathlib.Omega.{arith}
 use lib.Dec.{T}
 use lib.Ieee.{Float, nan, binary64, fits, ofBits, toBits, div}
 use lib.Ieee.Bits.{ofBits-toBits}
 use borrow.Author.Needs.{needs}
-use Rattle.square_root.specs.Sqrt.{SquareRoot}
+use Rattle.square_root.specs.SquareRoot.{IsSquareRoot}
+use Rattle.square_root.specs.Computed.{squareRoot}
+use Rattle.square_root.proofs.Laws.{squareRoot-only}
 use Rattle.square_root.proofs.Patterns as P
 use Rattle.square_root.proofs.sqrt.Statement.{statement}
 use Rattle.square_root.proofs.sqrt.Tie as tie
-use Rattle.square_root.proofs.sqrt.Reads as reads
-use Rattle.square_root.proofs.sqrt.Lts as lts
-use Rattle.square_root.proofs.sqrt_bits.Reads as sqrt-bits-reads
 
 -- what owning an `f64` tells: the format holds it
 held : (c : tie.Start) → T (fits binary64 (c .args .x))
 held c = subst T (sym (c .good .0 .1)) tt
 
--- from the pattern's value to the value
-from-bits : (x r : Float) → T (fits binary64 x) → SquareRoot binary64 (ofBits binary64 (toBits binary64 x)) r → SquareRoot binary64 x r
-from-bits x r h s = subst (λ (y : Float). SquareRoot binary64 y r) (ofBits-toBits binary64 x h) s
+-- what is IEEE 754's root of the argument is `squareRoot` of it
+only : (c : tie.Start) {r : Float} → IsSquareRoot binary64 (c .args .x) r → r ≡ squareRoot (c .args .x)
+only c {r} p = squareRoot-only (c .args .x) r (held c) p
 
-as-they-are : (x : Float) (b : ℕ) → T (fits binary64 x) → toBits binary64 x ≡ b → SquareRoot binary64 (ofBits binary64 b) (ofBits binary64 b) → SquareRoot binary64 x x
-as-they-are x b h e s = subst (λ (y : Float). SquareRoot binary64 y y) (ap (ofBits binary64) (sym e) ∙ ofBits-toBits binary64 x h) s
+-- from the pattern's value to the value
+from-bits : (x r : Float) → T (fits binary64 x) → IsSquareRoot binary64 (ofBits binary64 (toBits binary64 x)) r → IsSquareRoot binary64 x r
+from-bits x r h s = subst (λ (y : Float). IsSquareRoot binary64 y r) (ofBits-toBits binary64 x h) s
+
+as-they-are : (x : Float) (b : ℕ) → T (fits binary64 x) → toBits binary64 x ≡ b → IsSquareRoot binary64 (ofBits binary64 b) (ofBits binary64 b) → IsSquareRoot binary64 x x
+as-they-are x b h e s = subst (λ (y : Float). IsSquareRoot binary64 y y) (ap (ofBits binary64) (sym e) ∙ ofBits-toBits binary64 x h) s
 
 zero-by-zero : div binary64 (ofBits binary64 0) (ofBits binary64 0) ≡ nan
 unfolding div ofBits
@@ -43,29 +45,36 @@ float-from-bits-result : tie.Need-float-from-bits-result
 float-from-bits-result c = P.root-no-nan _ (c .sqrt-bits .result) (c .sqrt-bits .ensures)
 
 returns : tie.Need-returns
-returns c = subst (λ (y : Float). SquareRoot binary64 y y) (sym (P.is-nan (c .before .args .x) (c .if1 .taken))) P.at-nan
+returns c =
+    only (c .before) (subst (λ (y : Float). IsSquareRoot binary64 y y) (sym (P.is-nan (c .before .args .x) (c .if1 .taken))) P.at-nan)
 
 returns-2 : tie.Need-returns-2
-returns-2 c = as-they-are (c .before .before .before .args .x) (2 ^ 63) (held (c .before .before .before)) (c .if3 .taken) P.at-minus-zero
+returns-2 c =
+    let s = c .before .before .before in
+    only s (as-they-are (s .args .x) (2 ^ 63) (held s) (c .if3 .taken) P.at-minus-zero)
 
 returns-3 : tie.Need-returns-3
 returns-3 c =
-    let x = c .before .before .before .args .x in
-    subst (λ (y : Float). SquareRoot binary64 x y) (sym zero-by-zero) (P.below-zero x (held (c .before .before .before)) (c .before .if2 .taken) (c .if3 .left))
+    let s = c .before .before .before in
+    only s (subst (λ (y : Float). IsSquareRoot binary64 (s .args .x) y) (sym zero-by-zero) (P.below-zero (s .args .x) (held s) (c .before .if2 .taken) (c .if3 .left)))
 
 returns-4 : tie.Need-returns-4
-returns-4 c = as-they-are (c .before .before .before .args .x) 0 (held (c .before .before .before)) (c .if4 .taken) P.at-plus-zero
+returns-4 c =
+    let s = c .before .before .before in
+    only s (as-they-are (s .args .x) 0 (held s) (c .if4 .taken) P.at-plus-zero)
 
 returns-5 : tie.Need-returns-5
 returns-5 c =
-    let x = c .before .before .before .before .args .x in
-    as-they-are x (toBits binary64 x) (held (c .before .before .before .before)) refl (P.at-top (toBits binary64 x) (c .if5 .taken) (c .before .before .if2 .left))
+    let s = c .before .before .before .before in
+    let b = toBits binary64 (s .args .x) in
+    only s (as-they-are (s .args .x) b (held s) refl (P.at-top b (c .if5 .taken) (c .before .before .if2 .left)))
 
 returns-6 : tie.Need-returns-6
 returns-6 c =
-    let x = c .before .before .before .before .before .args .x in
-    from-bits x (ofBits binary64 (c .sqrt-bits .result)) (held (c .before .before .before .before .before))
-    (P.main (toBits binary64 x) (c .sqrt-bits .result) (some (toBits binary64 x) (c .before .before .if4 .left)) (c .before .if5 .left) (c .sqrt-bits .ensures))
+    let s = c .before .before .before .before .before in
+    let b = toBits binary64 (s .args .x) in
+    only s (from-bits (s .args .x) (ofBits binary64 (c .sqrt-bits .result)) (held s)
+    (P.main b (c .sqrt-bits .result) (some b (c .before .before .if4 .left)) (c .before .if5 .left) (c .sqrt-bits .ensures)))
 
 pub sqrt-spec : {M : Type 1} → statement M
 sqrt-spec =

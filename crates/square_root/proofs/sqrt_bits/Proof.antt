@@ -1,7 +1,7 @@
 -- `square_root::sqrt_bits` meets its contract: `Normal.antt`. Assumes nothing.
-use mathlib.Core.Path.{_≡_, refl, sym, ap, _∙_, subst}
-use Prim.Native.Nat.{ℕ, suc, _+_, _-_, _*_, _/_, _%_, _^_, _≤_, _<_}
-use native.Mathlib.Nat.{lt-of-le-of-lt, lt-of-lt-of-le, le-trans}
+use mathlib.Core.Path.{_≡_, subst}
+use Prim.Native.Nat.{ℕ, _+_, _-_, _/_, _^_, _≤_, _<_}
+use native.Mathlib.Nat.{lt-of-le-of-lt, le-trans}
 use native.Mathlib.Omega.{arith}
 use lib.Dec.{lit<, lit≤}
 use lib.Bits.{mask-lt}
@@ -11,9 +11,6 @@ use Rattle.square_root.specs.Steps.{RootBits}
 use Rattle.square_root.proofs.Normal.{normal-units, zeros-ge, shift-le, up-range, subnormal-units}
 use Rattle.square_root.proofs.sqrt_bits.Statement.{statement}
 use Rattle.square_root.proofs.sqrt_bits.Tie as tie
-use Rattle.square_root.proofs.sqrt_bits.Reads as reads
-use Rattle.square_root.proofs.sqrt_bits.Lts as lts
-use Rattle.square_root.proofs.pack.Reads as pack-reads
 
 below : (b : ℕ) → b / 2 ^ 52 ≡ 0 → b < 2 ^ 52
 below b h = omega arith
