@@ -1,0 +1,22 @@
+// Functions that have no entry point of their own, exported for comparisons and measurements: no part of the C interface.
+ghost use mathlib.Core.Path.{_≡_};
+ghost use lib.Ieee.{binary64, ofBits};
+ghost use Rattle.total_order.specs.Three.{orderOf};
+ghost use Rattle.probe.specs.Digits.{digitsOf};
+
+// The order of three bit patterns, its places as decimal digits.
+#[no_mangle]
+pub extern "C" fn probe_order_of_three(a: u64, b: u64, c: u64) -> u32
+    ensures { λ r. ⌜ r ≡ digitsOf (orderOf a b c) ⌝ }
+{
+    let o = total_order::order_of_three(a, b, c);
+    (o.first * 100 + o.second * 10 + o.third) as u32
+}
+
+// The value of a bit pattern.
+#[no_mangle]
+pub extern "C" fn probe_number(bits: u64) -> f64
+    ensures { λ r. ⌜ r ≡ ofBits binary64 bits ⌝ }
+{
+    total_order::number(bits)
+}
