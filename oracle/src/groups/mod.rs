@@ -1,0 +1,8 @@
+//! The groups of comparisons, a file each.
+//!
+//! A group's `run` compares the library. Its `compare` takes the functions to compare, so that the group's tests can
+//! show which wrong functions it finds.
+
+pub mod number;
+pub mod order;
+pub mod sqrt;

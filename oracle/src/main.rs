@@ -1,0 +1,151 @@
+//! Compares the proved library with plain Rust, group by group, and exits non-zero where they differ.
+
+use oracle::generator::Generator;
+use oracle::groups::{number, order, sqrt};
+use oracle::report::Report;
+use std::process::ExitCode;
+
+struct Group {
+    name: &'static str,
+    about: &'static str,
+    run: fn(&mut Generator, u64, &mut Report),
+}
+
+const GROUPS: &[Group] = &[
+    Group {
+        name: "sqrt",
+        about: "the square root against f64::sqrt",
+        run: sqrt::run,
+    },
+    Group {
+        name: "order",
+        about: "keys and the order of three against f64::total_cmp and a stable sort",
+        run: order::run,
+    },
+    Group {
+        name: "number",
+        about: "the value of a bit pattern against f64::from_bits",
+        run: number::run,
+    },
+];
+
+const DEFAULT_COUNT: u64 = 1_000_000;
+const DEFAULT_SEED: u64 = 754;
+
+struct Arguments {
+    groups: Vec<&'static Group>,
+    count: u64,
+    seed: u64,
+}
+
+fn main() -> ExitCode {
+    let words: Vec<String> = std::env::args().skip(1).collect();
+    if words.iter().any(|word| word == "--help" || word == "-h") {
+        println!("{}", usage());
+        return ExitCode::SUCCESS;
+    }
+    let arguments = match parse(&words) {
+        Ok(arguments) => arguments,
+        Err(message) => {
+            eprintln!("oracle: {message}\n\n{}", usage());
+            return ExitCode::from(2);
+        }
+    };
+    println!("seed {}", arguments.seed);
+    let mut mismatches = 0;
+    for group in arguments.groups {
+        let mut generator = Generator::named(arguments.seed, group.name);
+        let mut report = Report::new(group.name);
+        (group.run)(&mut generator, arguments.count, &mut report);
+        report.print();
+        mismatches += report.mismatches();
+    }
+    if mismatches == 0 {
+        ExitCode::SUCCESS
+    } else {
+        ExitCode::FAILURE
+    }
+}
+
+fn parse(words: &[String]) -> Result<Arguments, String> {
+    let mut arguments = Arguments {
+        groups: Vec::new(),
+        count: DEFAULT_COUNT,
+        seed: DEFAULT_SEED,
+    };
+    let mut words = words.iter();
+    while let Some(word) = words.next() {
+        match word.as_str() {
+            "--count" => arguments.count = number_after(word, words.next())?,
+            "--seed" => arguments.seed = number_after(word, words.next())?,
+            name => match GROUPS.iter().find(|group| group.name == name) {
+                Some(group) => arguments.groups.push(group),
+                None => return Err(format!("there is no group or option `{name}`")),
+            },
+        }
+    }
+    if arguments.groups.is_empty() {
+        arguments.groups = GROUPS.iter().collect();
+    }
+    Ok(arguments)
+}
+
+fn number_after(option: &str, word: Option<&String>) -> Result<u64, String> {
+    word.and_then(|word| word.parse().ok())
+        .ok_or_else(|| format!("{option} takes a whole number from 0 on"))
+}
+
+fn usage() -> String {
+    let mut text = format!(
+        "usage: oracle [GROUP ...] [--count N] [--seed N]\n\n\
+         Compares the proved library with plain Rust: the groups that are named, or all.\n\n\
+         --count N   about so many cases a group (default {DEFAULT_COUNT}); the fixed ones always run\n\
+         --seed N    the seed of the random cases (default {DEFAULT_SEED})\n\n\
+         Exit status: 0 no mismatch, 1 a mismatch, 2 bad usage.\n\ngroups:"
+    );
+    for group in GROUPS {
+        text.push_str(&format!("\n  {:8} {}", group.name, group.about));
+    }
+    text
+}
+
+#[cfg(test)]
+mod tests {
+    use super::*;
+
+    fn parsed(words: &[&str]) -> Result<Arguments, String> {
+        parse(
+            &words
+                .iter()
+                .map(|word| word.to_string())
+                .collect::<Vec<_>>(),
+        )
+    }
+
+    #[test]
+    fn all_groups_run_if_none_is_named() {
+        let arguments = parsed(&["--count", "5"]).ok().unwrap();
+        assert_eq!(arguments.groups.len(), GROUPS.len());
+        assert_eq!((arguments.count, arguments.seed), (5, DEFAULT_SEED));
+    }
+
+    #[test]
+    fn named_groups_alone_run() {
+        let arguments = parsed(&["order", "--seed", "9", "sqrt"]).ok().unwrap();
+        let names: Vec<_> = arguments.groups.iter().map(|group| group.name).collect();
+        assert_eq!(names, ["order", "sqrt"]);
+        assert_eq!(arguments.seed, 9);
+    }
+
+    #[test]
+    fn what_is_not_known_is_refused() {
+        for words in [
+            &["cbrt"][..],
+            &["--count"],
+            &["--count", "many"],
+            &["--fast"],
+        ] {
+            assert!(parsed(words).is_err(), "{words:?}");
+        }
+    }
+}
