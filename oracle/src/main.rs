@@ -1,7 +1,7 @@
 //! Compares the proved library with plain Rust, group by group, and exits non-zero where they differ.
 
 use oracle::generator::Generator;
-use oracle::groups::{number, order, sqrt};
+use oracle::groups::{number, order, root_steps, sqrt};
 use oracle::report::Report;
 use std::process::ExitCode;
 
@@ -26,6 +26,11 @@ const GROUPS: &[Group] = &[
         name: "number",
         about: "the value of a bit pattern against f64::from_bits",
         run: number::run,
+    },
+    Group {
+        name: "root_steps",
+        about: "correction steps of the square root: at most one each way",
+        run: root_steps::run,
     },
 ];
 
@@ -104,7 +109,7 @@ fn usage() -> String {
          Exit status: 0 no mismatch, 1 a mismatch, 2 bad usage.\n\ngroups:"
     );
     for group in GROUPS {
-        text.push_str(&format!("\n  {:8} {}", group.name, group.about));
+        text.push_str(&format!("\n  {:10} {}", group.name, group.about));
     }
     text
 }

@@ -5,6 +5,7 @@ mod ffi {
     extern "C" {
         pub fn probe_order_of_three(a: u64, b: u64, c: u64) -> u32;
         pub fn probe_number(bits: u64) -> f64;
+        pub fn probe_root_guess(n: u64) -> u64;
     }
 }
 
@@ -21,4 +22,11 @@ pub fn order_of_three(a: u64, b: u64, c: u64) -> u32 {
 pub fn number(bits: u64) -> f64 {
     // SAFETY: argument and answer are numbers by value, and the function is proved to end for every argument.
     unsafe { ffi::probe_number(bits) }
+}
+
+/// The guess from which the upper half of the digits of a root is settled, for an operand below 2^54.
+#[inline]
+pub fn root_guess(n: u64) -> u64 {
+    // SAFETY: argument and answer are integers by value, and the function is proved to end for every argument.
+    unsafe { ffi::probe_root_guess(n) }
 }

@@ -1,5 +1,6 @@
 // Functions that have no entry point of their own, exported for comparisons and measurements: no part of the C interface.
 ghost use mathlib.Core.Path.{_≡_};
+ghost use Prim.Native.Nat.{_^_, _<_};
 ghost use lib.Ieee.{binary64, ofBits};
 ghost use Rattle.total_order.specs.Three.{orderOf};
 ghost use Rattle.probe.specs.Digits.{digitsOf};
@@ -19,4 +20,16 @@ pub extern "C" fn probe_number(bits: u64) -> f64
     ensures { λ r. ⌜ r ≡ ofBits binary64 bits ⌝ }
 {
     total_order::number(bits)
+}
+
+// The guess from which the upper half of a root's digits is settled; 0 for an operand that is none.
+#[no_mangle]
+pub extern "C" fn probe_root_guess(n: u64) -> u64
+    ensures { λ r. ⌜ r < 2 ^ 27 ⌝ }
+{
+    if n < 0x40_0000_0000_0000 {
+        square_root::guess27(n)
+    } else {
+        0
+    }
 }

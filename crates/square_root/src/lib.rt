@@ -41,7 +41,7 @@ fn at_most(n: u64, s: u64) -> u64
     r
 }
 
-// The largest r with r * r <= n, from any guess s. From `root27`'s guesses neither loop takes more than one step, for any n.
+// The largest r with r * r <= n, from any guess s.
 fn settle(n: u64, s: u64) -> u64
     requires { ⌜ (n < 2 ^ 54) × (s < 2 ^ 27) ⌝ }
     ensures { λ r. ⌜ Root n r ⌝ }
@@ -53,18 +53,26 @@ fn settle(n: u64, s: u64) -> u64
     r
 }
 
-// The same for an n of 53 or 54 bits, whose root has 27, with a guess that is the root or next to it:
-// n / root of n, with 16 digits right, and one step of Newton's.
-fn root27(n: u64) -> u64
-    requires { ⌜ (2 ^ 52 ≤ n) × (n < 2 ^ 54) ⌝ }
-    ensures { λ r. ⌜ Root n r ⌝ }
+// About the root of an n of 53 or 54 bits, which has 27: n / root of n, with 16 digits right, and one step of Newton's.
+// It is the root or next to it (docs/DECISIONS.md, "Correction steps"), and no proof leans on that.
+pub fn guess27(n: u64) -> u64
+    requires { ⌜ n < 2 ^ 54 ⌝ }
+    ensures { λ r. ⌜ r < 2 ^ 27 ⌝ }
 {
     let t = n >> 22;
     let y = inverse_root(t);
     let g = (t * y) >> 32;
     let rest = if g * g <= n { n - g * g } else { 0 };
     let h = g + (((rest >> 22) * y) >> 33);
-    settle(n, if h < 0x800_0000 { h } else { 0x7ff_ffff })
+    if h < 0x800_0000 { h } else { 0x7ff_ffff }
+}
+
+// The largest r with r * r <= n, for an n of 53 or 54 bits.
+fn root27(n: u64) -> u64
+    requires { ⌜ n < 2 ^ 54 ⌝ }
+    ensures { λ r. ⌜ Root n r ⌝ }
+{
+    settle(n, guess27(n))
 }
 
 // The largest r with r * r <= n * 2^54: 54 bits. The upper half of its digits is the root of n,

@@ -5,4 +5,5 @@
 
 pub mod number;
 pub mod order;
+pub mod root_steps;
 pub mod sqrt;

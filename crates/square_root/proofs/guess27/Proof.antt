@@ -1,4 +1,4 @@
--- `square_root::root27` meets its contract: each number fits, and `settle` does the rest. Assumes nothing.
+-- `square_root::guess27` meets its contract: each number fits. Assumes nothing.
 use Prim.Native.Nat.{ℕ, _+_, _-_, _*_, _/_, _^_, _<_}
 use native.Mathlib.Omega.{arith}
 use mathlib.Core.Logic.{⊎-elim}
@@ -7,25 +7,24 @@ use mir.Syntax.{w64}
 use mir.Val.{Fits}
 use borrow.Author.Needs.{needs}
 use Rattle.square_root.proofs.Products.{mul-lt-pow, product}
-use Rattle.square_root.proofs.root27.Statement.{statement}
-use Rattle.square_root.proofs.root27.Tie as tie
-use Rattle.square_root.proofs.root27.Reads as reads
-use Rattle.square_root.proofs.root27.Lts as lts
+use Rattle.square_root.proofs.guess27.Statement.{statement}
+use Rattle.square_root.proofs.guess27.Tie as tie
+use Rattle.square_root.proofs.guess27.Reads as reads
+use Rattle.square_root.proofs.guess27.Lts as lts
 use Rattle.square_root.proofs.inverse_root.Reads as inverse-root-reads
-use Rattle.square_root.proofs.settle.Reads as settle-reads
 
 inverse-root-requires : tie.Need-inverse-root-requires
 inverse-root-requires c κs = search needs
 
 mul-g : tie.Need-mul-g
-mul-g c = product (shr-lt 32 22 (c .before .pre .1)) (c .inverse-root .ensures)
+mul-g c = product (shr-lt 32 22 (c .before .pre)) (c .inverse-root .ensures)
 
 -- the first guess
 guess-lt : (n y : ℕ) → n < 2 ^ 54 → y < 2 ^ 32 → n / 2 ^ 22 * y / 2 ^ 32 < 2 ^ 32
 guess-lt n y h k = shr-lt 32 32 (mul-lt-pow 32 32 (shr-lt 32 22 h) k)
 
 mul-if1 : tie.Need-mul-if1
-mul-if1 c = let g = guess-lt (c .before .args .n) (c .inverse-root .result) (c .before .pre .1) (c .inverse-root .ensures) in product g g
+mul-if1 c = let g = guess-lt (c .before .args .n) (c .inverse-root .result) (c .before .pre) (c .inverse-root .ensures) in product g g
 
 mul-rest : tie.Need-mul-rest
 mul-rest c = search needs
@@ -34,7 +33,7 @@ sub-rest : tie.Need-sub-rest
 sub-rest c = search needs
 
 abbrev Here : Type 0
-Here = lts.After-row-known (inverse-root-reads.Asked, inverse-root-reads.Learnt, settle-reads.Asked, settle-reads.Learnt) reads.Pre reads.Post
+Here = lts.After-row-known (inverse-root-reads.Asked, inverse-root-reads.Learnt) reads.Pre reads.Post
 
 rest-lt : (c : Here) → c .before .if1 .rest < 2 ^ 54
 rest-lt c = ⊎-elim (λ w. omega arith) (λ w. omega arith) (c .before .if1 .came)
@@ -50,16 +49,16 @@ add-h c =
     let n = c .before .before .before .args .n in
     let y = c .before .before .inverse-root .result in
     let Y = c .before .before .inverse-root .ensures in
-    sum-fits (n / 2 ^ 22 * y / 2 ^ 32) (c .before .if1 .rest / 2 ^ 22 * y) (guess-lt n y (c .before .before .before .pre .1) Y) (mul-lt-pow 32 32 (shr-lt 32 22 (rest-lt c)) Y)
-
-settle-requires : tie.Need-settle-requires
-settle-requires c κs = (c .before .before .before .before .pre .1, ⊎-elim (λ w. omega arith) (λ w. omega arith) (c .if2 .came))
+    sum-fits (n / 2 ^ 22 * y / 2 ^ 32) (c .before .if1 .rest / 2 ^ 22 * y) (guess-lt n y (c .before .before .before .pre) Y) (mul-lt-pow 32 32 (shr-lt 32 22 (rest-lt c)) Y)
 
 returns : tie.Need-returns
 returns c = search needs
 
-pub root27-spec : {M : Type 1} → statement M
-root27-spec =
+returns-2 : tie.Need-returns-2
+returns-2 c = search needs
+
+pub guess27-spec : {M : Type 1} → statement M
+guess27-spec =
     tie.close
     (tie.spec
     inverse-root-requires
@@ -69,5 +68,5 @@ root27-spec =
     sub-rest
     mul-h
     add-h
-    settle-requires
-    returns)
+    returns
+    returns-2)
