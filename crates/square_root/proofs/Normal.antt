@@ -66,11 +66,11 @@ module _ (b : ℕ) (some : 0 < b) (sub : b < 2 ^ 52) where
       go : (z j : ℕ) → z + suc j ≡ 64 → j < 52 → j + (z - 11) ≡ 52
       go z j e h = omega arith
 
-  pub zeros-ge : 11 ≤ leadingZeros 64 b
-  zeros-ge = go (leadingZeros 64 b) (top .0) (top .1) top-lt
+  pub zeros-range : (12 ≤ leadingZeros 64 b) × (leadingZeros 64 b ≤ 63)
+  zeros-range = go (leadingZeros 64 b) (top .0) (top .1) top-lt
     where
-      go : (z j : ℕ) → z + suc j ≡ 64 → j < 52 → 11 ≤ z
-      go z j e h = omega arith
+      go : (z j : ℕ) → z + suc j ≡ 64 → j < 52 → (12 ≤ z) × (z ≤ 63)
+      go z j e h = (omega arith, omega arith)
 
   pub shift-le : shift ≤ 52
   shift-le = go (top .0) shift shift-is

@@ -1,14 +1,12 @@
 -- `square_root::sqrt_bits` meets its contract: `Normal.antt`. Assumes nothing.
 use mathlib.Core.Path.{_≡_, subst}
 use Prim.Native.Nat.{ℕ, _+_, _-_, _/_, _^_, _≤_, _<_}
-use native.Mathlib.Nat.{lt-of-le-of-lt, le-trans}
 use native.Mathlib.Omega.{arith}
-use lib.Dec.{lit<, lit≤}
 use lib.Bits.{mask-lt}
-use mir.Facts.{fits-below}
+use lib.Count.{leadingZeros}
 use borrow.Author.Needs.{needs}
 use Rattle.square_root.specs.Steps.{RootBits}
-use Rattle.square_root.proofs.Normal.{normal-units, zeros-ge, shift-le, up-range, subnormal-units}
+use Rattle.square_root.proofs.Normal.{normal-units, zeros-range, shift-le, up-range, subnormal-units}
 use Rattle.square_root.proofs.sqrt_bits.Statement.{statement}
 use Rattle.square_root.proofs.sqrt_bits.Tie as tie
 
@@ -18,20 +16,24 @@ below b h = omega arith
 above : (b : ℕ) → (b / 2 ^ 52 ≡ 0 → ⊥) → 2 ^ 52 ≤ b
 above b h = omega arith
 
+-- how many zeros stand before the digits of a subnormal number
+zeros : (c : tie.Start) → c .args .b / 2 ^ 52 ≡ 0 → (12 ≤ leadingZeros 64 (c .args .b)) × (leadingZeros 64 (c .args .b) ≤ 63)
+zeros c h = zeros-range (c .args .b) (c .pre .0) (below (c .args .b) h)
+
 sub-s : tie.Need-sub-s
-sub-s c = zeros-ge (c .before .args .b) (c .before .pre .0) (below (c .before .args .b) (c .if1 .taken))
+sub-s c = omega (arith, zeros (c .before) (c .if1 .taken) .0)
 
 cast-pack : tie.Need-cast-pack
-cast-pack c = fits-below {n = 52} tt (shift-le (c .before .args .b) (c .before .pre .0) (below (c .before .args .b) (c .if1 .taken)))
+cast-pack c = omega (arith, zeros (c .before) (c .if1 .taken) .1)
 
 shl-pack : tie.Need-shl-pack
-shl-pack c = lt-of-le-of-lt (shift-le (c .before .args .b) (c .before .pre .0) (below (c .before .args .b) (c .if1 .taken))) (lit< tt)
+shl-pack c = omega (arith, zeros (c .before) (c .if1 .taken) .1)
 
 cast-pack-2 : tie.Need-cast-pack-2
 cast-pack-2 c = cast-pack c
 
 sub-pack : tie.Need-sub-pack
-sub-pack c = le-trans (shift-le (c .before .args .b) (c .before .pre .0) (below (c .before .args .b) (c .if1 .taken))) (lit≤ tt)
+sub-pack c = omega (arith, zeros (c .before) (c .if1 .taken) .1)
 
 exponent : (s : ℕ) → s ≤ 52 → (1022 ≤ 1074 - s) × (1074 - s < 3120)
 exponent s h = (omega arith, omega arith)
