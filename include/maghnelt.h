@@ -24,6 +24,8 @@ extern "C" {
 #define MAGHNELT_MATCH 8          /* point (3), normal (3), offset, sigma */
 #define MAGHNELT_PLANE 4          /* normal (3), offset */
 
+/* ---- leaves ---- */
+
 /*
  * IEEE 754's squareRoot, correctly rounded: -0 for -0, +infinity for +infinity, a NaN for a NaN and for every
  * number below zero.
@@ -35,6 +37,58 @@ double maghnelt_sqrt(double x);
  * negative. Signed comparison of keys is IEEE 754's totalOrder of the patterns, NaNs of all kinds included.
  */
 int64_t maghnelt_total_order_key(uint64_t bits);
+
+/* ---- moments: MAGHNELT_MOMENTS numbers a record; thirteen zeros are the empty set. Each call can refuse by 3. ---- */
+
+/* The moments of a list of points, 3 numbers each, at most 65,536 points. What `moments` held before does not count. */
+uint32_t maghnelt_moments_from_points(const double *points, size_t points_length, double *moments,
+                                      size_t moments_length);
+
+/* One point more. */
+uint32_t maghnelt_moments_push(double *moments, size_t moments_length, const double *point, size_t point_length);
+
+/* The points of another set too. */
+uint32_t maghnelt_moments_merge(double *moments, size_t moments_length, const double *other, size_t other_length);
+
+/* The moments of the points carried by p -> A p + b; a is 3 by 3 by columns, b has 3 numbers. */
+uint32_t maghnelt_moments_transformed(const double *moments, size_t moments_length, const double *a, size_t a_length,
+                                      const double *b, size_t b_length, double *out, size_t out_length);
+
+/*
+ * The mean (3) and the scatter about it (9, by columns): *found is 1, and out, of 12 numbers, holds them. None for a
+ * count at or below 0: *found is 0, and out is as it was.
+ */
+uint32_t maghnelt_moments_mean_and_scatter(const double *moments, size_t moments_length, double *out,
+                                           size_t out_length, uint32_t *found);
+
+/*
+ * The plane of least scatter, by the decomposition of the scatter that the host hands in (MAGHNELT_DECOMPOSITION
+ * numbers, in any order of the eigenvalues): *found is 1, and out, of 7 numbers, holds the normal, the offset and the
+ * eigenvalues, rising in IEEE 754's total order. None for a count below 3 or where the two least eigenvalues are less
+ * than 1e-14 apart: *found is 0, and out is as it was.
+ */
+uint32_t maghnelt_moments_plane(const double *moments, size_t moments_length, const double *decomposition,
+                                size_t decomposition_length, double *out, size_t out_length, uint32_t *found);
+
+/* ---- planes: MAGHNELT_PLANE numbers ---- */
+
+/*
+ * The plane of a normal of any length: normal and offset divided by the normal's norm. Refused by 3, then by 11 if
+ * the norm is not finite or not above 1e-12.
+ */
+uint32_t maghnelt_plane_new(const double *normal, size_t normal_length, double offset, double *plane,
+                            size_t plane_length);
+
+/*
+ * The standard deviation of a point's distance from a plane: the plane with its centroid (3) and covariance (6 by 6),
+ * the point's covariance (3 by 3), the point in the site (3) and its derivative by the point (3 by 3). Refused by 3,
+ * then by 12 if the variance is not finite and positive.
+ */
+uint32_t maghnelt_point_to_plane_sigma(const double *plane, size_t plane_length, const double *centroid,
+                                       size_t centroid_length, const double *plane_covariance,
+                                       size_t plane_covariance_length, const double *point_covariance,
+                                       size_t point_covariance_length, const double *world, size_t world_length,
+                                       const double *d_world_d_point, size_t d_world_d_point_length, double *sigma);
 
 #ifdef __cplusplus
 }

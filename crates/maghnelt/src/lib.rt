@@ -2,6 +2,12 @@
 ghost use mathlib.Core.Path.{_≡_};
 ghost use Rattle.square_root.specs.Computed.{squareRoot};
 ghost use Rattle.total_order.specs.Key.{keyOf};
+ghost use Rattle.refusals.specs.Refusal.{Answered};
+ghost use Rattle.point_moments.specs.Moments.{momentsOf};
+ghost use Rattle.point_moments.specs.Scatter.{meanAndScatter};
+ghost use Rattle.point_moments.specs.Plane.{planeOf};
+ghost use Rattle.moment_lists.specs.Calls.{gatherRefusal, gathered, pushRefusal, pushed, mergeRefusal, joined, moveRefusal, moved, meanRefusal, meanAnswer, planeRefusal, planeAnswer};
+ghost use Rattle.plane_lists.specs.Calls.{newRefusal, newPlane, SigmaAnswered};
 
 // IEEE 754's squareRoot.
 #[no_mangle]
@@ -17,4 +23,98 @@ pub extern "C" fn maghnelt_total_order_key(bits: u64) -> i64
     ensures { λ r. ⌜ r ≡ keyOf bits ⌝ }
 {
     total_order::key(bits)
+}
+
+// The moments of a list of points.
+#[no_mangle]
+pub extern "C" fn maghnelt_moments_from_points(points: &[f64], moments: &mut [f64]) -> u32
+    ensures { λ r. ⌜ Answered (gatherRefusal (now (points .entry)) (now (moments .entry))) r (now (moments .entry)) (now (moments .exit)) (gathered (now (points .entry))) ⌝ }
+{
+    moment_lists::from_points(points, moments)
+}
+
+// One point more.
+#[no_mangle]
+pub extern "C" fn maghnelt_moments_push(moments: &mut [f64], point: &[f64]) -> u32
+    ensures { λ r. ⌜ Answered (pushRefusal (now (moments .entry)) (now (point .entry))) r (now (moments .entry)) (now (moments .exit)) (pushed (now (moments .entry)) (now (point .entry))) ⌝ }
+{
+    moment_lists::push(moments, point)
+}
+
+// The points of another set too.
+#[no_mangle]
+pub extern "C" fn maghnelt_moments_merge(moments: &mut [f64], other: &[f64]) -> u32
+    ensures { λ r. ⌜ Answered (mergeRefusal (now (moments .entry)) (now (other .entry))) r (now (moments .entry)) (now (moments .exit)) (joined (now (moments .entry)) (now (other .entry))) ⌝ }
+{
+    moment_lists::merge(moments, other)
+}
+
+// The moments of the points carried by p -> A p + b.
+#[no_mangle]
+pub extern "C" fn maghnelt_moments_transformed(
+    moments: &[f64],
+    a: &[f64],
+    b: &[f64],
+    out: &mut [f64],
+) -> u32
+    ensures { λ r. ⌜ Answered (moveRefusal (now (moments .entry)) (now (a .entry)) (now (b .entry)) (now (out .entry))) r (now (out .entry)) (now (out .exit)) (moved (now (moments .entry)) (now (a .entry)) (now (b .entry))) ⌝ }
+{
+    moment_lists::transformed(moments, a, b, out)
+}
+
+// The mean and the scatter, or none.
+#[no_mangle]
+pub extern "C" fn maghnelt_moments_mean_and_scatter(
+    moments: &[f64],
+    out: &mut [f64],
+    found: &mut u32,
+) -> u32
+    ensures { λ r. ⌜ Answered (meanRefusal (now (moments .entry)) (now (out .entry))) r (now (out .entry), now (found .entry)) (now (out .exit), now (found .exit)) (meanAnswer (meanAndScatter (momentsOf (now (moments .entry)))) (now (out .entry))) ⌝ }
+{
+    moment_lists::mean_and_scatter(moments, out, found)
+}
+
+// The plane of least scatter, or none.
+#[no_mangle]
+pub extern "C" fn maghnelt_moments_plane(
+    moments: &[f64],
+    decomposition: &[u64],
+    out: &mut [f64],
+    found: &mut u32,
+) -> u32
+    ensures { λ r. ⌜ Answered (planeRefusal (now (moments .entry)) (now (decomposition .entry)) (now (out .entry))) r (now (out .entry), now (found .entry)) (now (out .exit), now (found .exit)) (planeAnswer (planeOf (momentsOf (now (moments .entry))) (now (decomposition .entry))) (now (out .entry))) ⌝ }
+{
+    moment_lists::plane(moments, decomposition, out, found)
+}
+
+// The plane of a normal of any length.
+#[no_mangle]
+pub extern "C" fn maghnelt_plane_new(normal: &[f64], offset: f64, plane: &mut [f64]) -> u32
+    ensures { λ r. ⌜ Answered (newRefusal (now (normal .entry)) (now (plane .entry))) r (now (plane .entry)) (now (plane .exit)) (newPlane (now (normal .entry)) offset) ⌝ }
+{
+    plane_lists::plane_new(normal, offset, plane)
+}
+
+// The standard deviation of a point's distance from a plane.
+#[no_mangle]
+pub extern "C" fn maghnelt_point_to_plane_sigma(
+    plane: &[f64],
+    centroid: &[f64],
+    plane_covariance: &[f64],
+    point_covariance: &[f64],
+    world: &[f64],
+    d_world_d_point: &[f64],
+    sigma: &mut f64,
+) -> u32
+    ensures { λ r. ⌜ SigmaAnswered (record { plane = now (plane .entry); centroid = now (centroid .entry); planeCovariance = now («plane_covariance» .entry); pointCovariance = now («point_covariance» .entry); world = now (world .entry); dWorldDPoint = now («d_world_d_point» .entry) }) r (now (sigma .entry)) (now (sigma .exit)) ⌝ }
+{
+    plane_lists::point_to_plane_sigma(
+        plane,
+        centroid,
+        plane_covariance,
+        point_covariance,
+        world,
+        d_world_d_point,
+        sigma,
+    )
 }

@@ -1,14 +1,22 @@
 -- Laws of sums, tables and grids, over the length. Assumes nothing.
 use Prim.Native.Nat.{ℕ, zero, suc, _+_, _*_, _<_, _≤_}
 use native.Mathlib.Numerals.{add-one}
-use native.Mathlib.Nat.{le-of-suc-le-suc, not-suc-le-zero, zero-mul, zero-add, add-zero, suc-mul, mul-le-mul-right}
+use native.Mathlib.Nat.{le-of-suc-le-suc, not-suc-le-zero, zero-mul, zero-add, add-zero, add-suc, suc-mul, mul-comm, mul-le-mul-right}
 use native.Mathlib.Omega.{arith}
 use mathlib.Core.Path.{_≡_, refl, sym, ap, _∙_}
-use mathlib.Core.List.{List, [], _∷_, _++_}
+use mathlib.Core.List.{List, [], _∷_, _++_, append-assoc, append-nil}
 use lib.ListN.{length, getD, take, set, length-append, List·getD-append}
 use lib.Seq.{ext-getD, getD-append-add, take-suc, take-suc-set, take-all, take-length}
-use lib.Ieee.{Float, nan}
-use Rattle.sums.specs.Sum.{_⊕_, _⊗_, sumTo, tab, grid, off, at, product, transpose, column, dot}
+use mathlib.Core.Bool.{Bool, true, false}
+use lib.Ieee.{Float, nan, inf, fin, mul, unlike, up, down}
+use Rattle.sums.specs.Sum.{_⊕_, _⊗_, zeroF, sumTo, sumFrom, tab, grid, off, at, product, transpose, dot}
+
+-- the sign of a product
+unlike-comm : (s t : Bool) → unlike s t ≡ unlike t s
+unlike-comm true true = refl
+unlike-comm true false = refl
+unlike-comm false true = refl
+unlike-comm false false = refl
 
 -- one more term
 pub sumTo-more : (n : ℕ) (f : ℕ → Float) → 0 < n → sumTo (n + 1) f ≡ sumTo n f ⊕ f n
@@ -20,6 +28,39 @@ sumTo-same zero f g h = refl
 sumTo-same (suc zero) f g h = h 0 (omega arith)
 sumTo-same (suc (suc n)) f g h = cc (sumTo-same (suc n) f g (λ k l. h k (omega arith)), h (suc n) (omega arith))
 
+-- Σ goes on from its first term
+pub sumTo-first : (n : ℕ) (f : ℕ → Float) → sumTo (suc n) f ≡ sumFrom (f 0) n (λ k. f (suc k))
+sumTo-first zero f = refl
+sumTo-first (suc n) f = ap (λ s. s ⊕ f (suc n)) (sumTo-first n f)
+
+-- one more term, equal terms, and a sum in two parts, for sums that start from a number
+pub sumFrom-more : (a : Float) (n : ℕ) (f : ℕ → Float) → sumFrom a (n + 1) f ≡ sumFrom a n f ⊕ f n
+sumFrom-more a n f = rw add-one
+
+pub sumFrom-same : (a : Float) (n : ℕ) (f g : ℕ → Float) → ((k : ℕ) → k < n → f k ≡ g k) → sumFrom a n f ≡ sumFrom a n g
+sumFrom-same a zero f g h = refl
+sumFrom-same a (suc n) f g h = cc (sumFrom-same a n f g (λ k l. h k (omega arith)), h n (omega arith))
+
+pub sumFrom-parts : (a : Float) (m n : ℕ) (f : ℕ → Float) → sumFrom a (m + n) f ≡ sumFrom (sumFrom a m f) n (λ k. f (m + k))
+sumFrom-parts a m zero f = rw add-zero
+sumFrom-parts a m (suc n) f = rw add-suc (ap (λ s. s ⊕ f (m + n)) (sumFrom-parts a m n f))
+
+-- the two factors of one product may be swapped
+pub ⊗-comm : (a b : Float) → a ⊗ b ≡ b ⊗ a
+unfolding mul
+⊗-comm nan nan = refl
+⊗-comm nan (inf t) = refl
+⊗-comm nan (fin t n d) = refl
+⊗-comm (inf s) nan = refl
+⊗-comm (inf s) (inf t) = rw (unlike-comm s t)
+⊗-comm (inf s) (fin t n d) = rw (unlike-comm s t)
+⊗-comm (fin s m e) nan = refl
+⊗-comm (fin s m e) (inf t) = rw (unlike-comm s t)
+⊗-comm (fin s m e) (fin t n d) = rw (unlike-comm s t, mul-comm (m * up e) (n * up d), mul-comm (down e) (down d))
+
+pub dot-comm : (n : ℕ) (a b : List Float) → dot n a b ≡ dot n b a
+dot-comm n a b = sumTo-same n _ _ (λ k h. ⊗-comm (getD a k nan) (getD b k nan))
+
 pub length-tab : (n : ℕ) (f : ℕ → Float) → length (tab n f) ≡ n
 length-tab zero f = refl
 length-tab (suc n) f = ap suc (length-tab n (λ k. f (suc k)))
@@ -28,6 +69,14 @@ pub getD-tab : (n : ℕ) (f : ℕ → Float) (k : ℕ) → k < n → getD (tab n
 getD-tab zero f k h = absurd (not-suc-le-zero h)
 getD-tab (suc n) f zero h = refl
 getD-tab (suc n) f (suc k) h = getD-tab n (λ k. f (suc k)) k (le-of-suc-le-suc h)
+
+pub tab-more : (n : ℕ) (f : ℕ → Float) → tab (suc n) f ≡ tab n f ++ (f n ∷ [])
+tab-more zero f = refl
+tab-more (suc n) f = ap (λ l. f 0 ∷ l) (tab-more n (λ k. f (suc k)))
+
+pub tab-same : (n : ℕ) (f g : ℕ → Float) → ((k : ℕ) → k < n → f k ≡ g k) → tab n f ≡ tab n g
+tab-same zero f g h = refl
+tab-same (suc n) f g h = cc (h 0 (omega arith), tab-same n (λ k. f (suc k)) (λ k. g (suc k)) (λ k l. h (suc k) (omega arith)))
 
 pub off-add : (b k : ℕ) → off b k ≡ b + k
 off-add b zero = sym (add-zero b)
@@ -48,12 +97,18 @@ at-grid rows cols f r c h l = rw off-add (there rows cols f r c h l)
         let e : suc c * rows + r ≡ length t + (c * rows + r) = omega (arith, length-tab rows (λ r. f r 0)) in
         rw e (getD-append-add t _ (c * rows + r) nan ∙ there rows cols (λ r c. f r (suc c)) r c h (le-of-suc-le-suc l))
 
--- the entry of dᵀ s d, for d of n rows and dof columns and s of n by n
-pub at-sandwich : (n dof : ℕ) (d s : List Float) (r c : ℕ) → r < dof → c < dof → at dof (product dof n dof (product dof n n (transpose n dof d) s) d) r c ≡ sumTo n (λ k. sumTo n (λ j. at n d j r ⊗ at n s j k) ⊗ at n d k c)
-at-sandwich n dof d s r c h l =
-    at-grid dof dof _ r c h l
-    ∙ sumTo-same n _ _ (λ k m. ap (λ x. x ⊗ at n d k c)
-    (at-grid dof n _ r k h m ∙ sumTo-same n _ _ (λ j i. ap (λ x. x ⊗ at n s j k) (at-grid dof n _ r j h i))))
+-- the entries of a product and of a transposed matrix
+pub at-product : (rows inner cols : ℕ) (a b : List Float) (r c : ℕ) → r < rows → c < cols → at rows (product rows inner cols a b) r c ≡ sumTo inner (λ k. at rows a r k ⊗ at inner b k c)
+at-product rows inner cols a b r c h l = at-grid rows cols _ r c h l
+
+pub at-transpose : (rows cols : ℕ) (a : List Float) (r c : ℕ) → r < cols → c < rows → at cols (transpose rows cols a) r c ≡ at rows a c r
+at-transpose rows cols a r c h l = at-grid cols rows _ r c h l
+
+-- one more column
+pub grid-column : (rows cols : ℕ) (f : ℕ → ℕ → Float) → grid rows (suc cols) f ≡ grid rows cols f ++ tab rows (λ r. f r cols)
+grid-column rows zero f = append-nil (tab rows (λ r. f r 0))
+grid-column rows (suc cols) f =
+    ap (λ l. tab rows (λ r. f r 0) ++ l) (grid-column rows cols (λ r c. f r (suc c))) ∙ sym (append-assoc (tab rows (λ r. f r 0)) _ _)
 
 pub length-grid : (rows cols : ℕ) (f : ℕ → ℕ → Float) → length (grid rows cols f) ≡ cols * rows
 length-grid rows zero f = sym (zero-mul rows)

@@ -1,0 +1,55 @@
+// A decomposition that the host hands in as twelve bit patterns: three eigenvalues, then their three vectors, in any order.
+ghost use mathlib.Core.Path.{_≡_};
+ghost use Prim.Native.Nat.{_<_};
+ghost use lib.ListN.{length};
+ghost use Rattle.decomposition.specs.Axes.{DECOMPOSITION, numberAt, vectorOf, risingOf};
+
+// How many patterns a decomposition is.
+pub const DECOMPOSITION: usize = 12;
+
+// The eigenvalues in rising order, and the vector of the first.
+pub struct Axes {
+    pub first: f64,
+    pub second: f64,
+    pub third: f64,
+    pub normal: [f64; 3],
+}
+
+pub fn rising(d: &[u64]) -> Axes
+    requires { ⌜ length (now d) ≡ DECOMPOSITION ⌝ }
+    ensures { λ r. ⌜ r ≡ risingOf (now (d .entry)) ⌝ }
+{
+    let o = total_order::order_of_three(d[0], d[1], d[2]);
+    let i = o.first;
+    let j = o.second;
+    let k = o.third;
+    let first = value(d, i);
+    let second = value(d, j);
+    let third = value(d, k);
+    let normal = vector(d, i);
+    Axes {
+        first,
+        second,
+        third,
+        normal,
+    }
+}
+
+// Eigenvalue k, and its vector.
+pub fn value(d: &[u64], k: usize) -> f64
+    requires { ⌜ (length (now d) ≡ DECOMPOSITION) × (k < 3) ⌝ }
+    ensures { λ r. ⌜ r ≡ numberAt (now (d .entry)) k ⌝ }
+{
+    total_order::number(d[k])
+}
+
+pub fn vector(d: &[u64], k: usize) -> [f64; 3]
+    requires { ⌜ (length (now d) ≡ DECOMPOSITION) × (k < 3) ⌝ }
+    ensures { λ r. ⌜ r ≡ vectorOf (now (d .entry)) k ⌝ }
+{
+    let at = k * 3 + 3;
+    let x = total_order::number(d[at]);
+    let y = total_order::number(d[at + 1]);
+    let z = total_order::number(d[at + 2]);
+    [x, y, z]
+}

@@ -1,0 +1,41 @@
+// Numbers between lent lists and arrays by value.
+ghost use mathlib.Core.Path.{_≡_};
+ghost use Prim.Native.Nat.{_+_, _≤_};
+ghost use lib.ListN.{length};
+ghost use Rattle.lists.specs.Part.{part};
+
+pub fn three(l: &[f64], at: usize) -> [f64; 3]
+    requires { ⌜ at + 3 ≤ length (now l) ⌝ }
+    ensures { λ r. ⌜ r ≡ part 3 (now (l .entry)) at ⌝ }
+{
+    [l[at], l[at + 1], l[at + 2]]
+}
+
+pub fn nine(l: &[f64], at: usize) -> [f64; 9]
+    requires { ⌜ at + 9 ≤ length (now l) ⌝ }
+    ensures { λ r. ⌜ r ≡ part 9 (now (l .entry)) at ⌝ }
+{
+    [
+        l[at],
+        l[at + 1],
+        l[at + 2],
+        l[at + 3],
+        l[at + 4],
+        l[at + 5],
+        l[at + 6],
+        l[at + 7],
+        l[at + 8],
+    ]
+}
+
+// All of `from` into `to`.
+pub fn store(to: &mut [f64], from: &[f64])
+    requires { ⌜ length (now to) ≡ length (now from) ⌝ }
+    ensures { λ _. ⌜ now (to .exit) ≡ now (from .entry) ⌝ }
+{
+    let mut k = 0;
+    while k < from.len() {
+        to[k] = from[k];
+        k += 1;
+    }
+}

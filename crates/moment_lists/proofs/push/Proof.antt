@@ -1,0 +1,36 @@
+-- `moment_lists::push` meets its contract: the record with the point, written back. Assumes nothing.
+use borrow.Author.Needs.{needs}
+use borrow.Author.Tests.{eq-eqb, ne-eqb}
+use Rattle.refusals.specs.Refusal.{refused, accepted}
+use Rattle.moment_lists.specs.Calls.{pushRefusal, pushed}
+use Rattle.moment_lists.proofs.push.Statement.{statement}
+use Rattle.moment_lists.proofs.push.Tie as tie
+
+returns : tie.Need-returns
+unfolding pushRefusal
+returns c = refused (rw (ne-eqb _ _ (c .if1 .taken)))
+
+returns-2 : tie.Need-returns-2
+unfolding pushRefusal
+returns-2 c = refused (rw (eq-eqb _ _ (c .before .if1 .left), ne-eqb _ _ (c .if2 .taken)))
+
+returns-3 : tie.Need-returns-3
+unfolding pushRefusal pushed
+returns-3 c =
+    let made = c .before .before .before .before in
+    let tested = made .before .before .before .before in
+    accepted (rw (eq-eqb _ _ (tested .before .if1 .left), eq-eqb _ _ (tested .if2 .left)))
+    (rw (c .before .before .write .ensures, made .with-point .ensures, made .before .three .ensures, made .before .before .from-list .ensures))
+
+pub push-spec : {M : Type 1} → statement M
+push-spec =
+    tie.close
+    (tie.spec
+    returns
+    returns-2
+    (λ c κs. search needs)
+    (λ c κs. search needs)
+    (λ c κs. tt)
+    (λ c κs. search needs)
+    (λ c. search needs)
+    returns-3)

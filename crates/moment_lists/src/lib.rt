@@ -1,0 +1,126 @@
+// The calls of a host on moments as lists: each answers 0, or the number of the reason to refuse it, and then it writes nothing.
+ghost use mathlib.Core.Path.{_≡_};
+ghost use Rattle.refusals.specs.Refusal.{Answered};
+ghost use Rattle.point_moments.specs.Moments.{momentsOf};
+ghost use Rattle.point_moments.specs.Scatter.{meanAndScatter};
+ghost use Rattle.point_moments.specs.Plane.{planeOf};
+ghost use Rattle.moment_lists.specs.Calls.{gatherRefusal, gathered, pushRefusal, pushed, mergeRefusal, joined, moveRefusal, moved, meanRefusal, meanAnswer, planeRefusal, planeAnswer};
+use decomposition::DECOMPOSITION;
+use point_moments::MOMENTS;
+use point_moments::PointMoments;
+use point_moments::plane::MomentsPlane;
+
+// The moments of points, three numbers each.
+pub fn from_points(points: &[f64], moments: &mut [f64]) -> u32
+    ensures { λ r. ⌜ Answered (gatherRefusal (now (points .entry)) (now (moments .entry))) r (now (moments .entry)) (now (moments .exit)) (gathered (now (points .entry))) ⌝ }
+{
+    if moments.len() != MOMENTS {
+        return 3;
+    }
+    let g = PointMoments::from_points(points);
+    if g.refusal != 0 {
+        return g.refusal;
+    }
+    let m = g.moments;
+    m.write(moments);
+    0
+}
+
+// One point more.
+pub fn push(moments: &mut [f64], point: &[f64]) -> u32
+    ensures { λ r. ⌜ Answered (pushRefusal (now (moments .entry)) (now (point .entry))) r (now (moments .entry)) (now (moments .exit)) (pushed (now (moments .entry)) (now (point .entry))) ⌝ }
+{
+    if moments.len() != MOMENTS {
+        return 3;
+    }
+    if point.len() != 3 {
+        return 3;
+    }
+    let m = PointMoments::from_list(moments).with_point(lists::three(point, 0));
+    m.write(moments);
+    0
+}
+
+// Another set more.
+pub fn merge(moments: &mut [f64], other: &[f64]) -> u32
+    ensures { λ r. ⌜ Answered (mergeRefusal (now (moments .entry)) (now (other .entry))) r (now (moments .entry)) (now (moments .exit)) (joined (now (moments .entry)) (now (other .entry))) ⌝ }
+{
+    if moments.len() != MOMENTS {
+        return 3;
+    }
+    if other.len() != MOMENTS {
+        return 3;
+    }
+    let m = PointMoments::from_list(moments).merged(PointMoments::from_list(other));
+    m.write(moments);
+    0
+}
+
+// The moments of the points a·p + b.
+pub fn transformed(moments: &[f64], a: &[f64], b: &[f64], out: &mut [f64]) -> u32
+    ensures { λ r. ⌜ Answered (moveRefusal (now (moments .entry)) (now (a .entry)) (now (b .entry)) (now (out .entry))) r (now (out .entry)) (now (out .exit)) (moved (now (moments .entry)) (now (a .entry)) (now (b .entry))) ⌝ }
+{
+    if moments.len() != MOMENTS {
+        return 3;
+    }
+    if a.len() != 9 {
+        return 3;
+    }
+    if b.len() != 3 {
+        return 3;
+    }
+    if out.len() != MOMENTS {
+        return 3;
+    }
+    let m = PointMoments::from_list(moments).transformed(lists::nine(a, 0), lists::three(b, 0));
+    m.write(out);
+    0
+}
+
+// Mean and scatter; where there is none, `found` is 0 and `out` as it was.
+pub fn mean_and_scatter(moments: &[f64], out: &mut [f64], found: &mut u32) -> u32
+    ensures { λ r. ⌜ Answered (meanRefusal (now (moments .entry)) (now (out .entry))) r (now (out .entry), now (found .entry)) (now (out .exit), now (found .exit)) (meanAnswer (meanAndScatter (momentsOf (now (moments .entry)))) (now (out .entry))) ⌝ }
+{
+    if moments.len() != MOMENTS {
+        return 3;
+    }
+    if out.len() != 12 {
+        return 3;
+    }
+    let m = PointMoments::from_list(moments).mean_and_scatter();
+    if m.found {
+        let l = m.to_list();
+        lists::store(out, &l);
+        *found = 1;
+    } else {
+        *found = 0;
+    }
+    0
+}
+
+// Normal, offset and the eigenvalues in rising order; where there is no plane, `found` is 0 and `out` as it was.
+pub fn plane(moments: &[f64], decomposition: &[u64], out: &mut [f64], found: &mut u32) -> u32
+    ensures { λ r. ⌜ Answered (planeRefusal (now (moments .entry)) (now (decomposition .entry)) (now (out .entry))) r (now (out .entry), now (found .entry)) (now (out .exit), now (found .exit)) (planeAnswer (planeOf (momentsOf (now (moments .entry))) (now (decomposition .entry))) (now (out .entry))) ⌝ }
+{
+    if moments.len() != MOMENTS {
+        return 3;
+    }
+    if decomposition.len() != DECOMPOSITION {
+        return 3;
+    }
+    if out.len() != 7 {
+        return 3;
+    }
+    let answer = PointMoments::from_list(moments).plane(decomposition);
+    match answer {
+        MomentsPlane::Found(x, y, z, offset, first, second, third) => {
+            let l = [x, y, z, offset, first, second, third];
+            lists::store(out, &l);
+            *found = 1;
+        }
+        MomentsPlane::NoPlane => {
+            *found = 0;
+        }
+    }
+    0
+}

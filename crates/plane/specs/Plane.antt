@@ -1,0 +1,52 @@
+-- A plane n·x + d = 0, and when a normal makes one. Definitions only.
+use Prim.Native.Nat.{ℕ}
+use mathlib.Core.Bool.{not}
+use mathlib.Core.List.{List, [], _∷_, _++_}
+use lib.Ieee.{Float, binary64, ofBits, div}
+use Rattle.sums.specs.Sum.{zeroF, tab, dot}
+use Rattle.lists.specs.Part.{_!_, part}
+use Rattle.refusals.specs.Refusal.{Reason, _when_, firstOf, kept}
+use Rattle.square_root.specs.Computed.{squareRoot}
+use Rattle.validate.specs.Finite.{finiteAbove}
+use Rattle.plane.specs.declared.Plane.{Plane}
+use Rattle.plane.specs.declared.PlaneAnswer.{PlaneAnswer}
+
+-- how many numbers a plane is
+abbrev pub PLANE : ℕ
+PLANE = 4
+
+-- normal at 0..2, offset at 3
+abbrev pub planeOf : List Float → Plane
+planeOf l = record { normal = part 3 l 0; offset = l ! 3 }
+
+abbrev pub planeList : Plane → List Float
+planeList p = part 3 (p .normal) 0 ++ p .offset ∷ []
+
+-- sqrt(Σ n_r·n_r)
+abbrev pub norm : List Float → Float
+norm n = squareRoot (dot 3 n n)
+
+-- 1e-12, by its bits
+abbrev pub leastNorm : Float
+leastNorm = ofBits binary64 0x3d71_9799_812d_ea11
+
+-- 11 unless the norm is finite and above 1e-12; the offset is not tested
+abbrev pub normalReasons : List Float → List Reason
+normalReasons n = 11 when not (finiteAbove leastNorm (norm n)) ∷ []
+
+-- normal / norm and offset / norm, each a division
+abbrev pub unitPlane : List Float → Float → Plane
+unitPlane n d = record {
+  normal = tab 3 (λ r. div binary64 (n ! r) (norm n));
+  offset = div binary64 d (norm n);
+}
+
+-- four zeros, beside the number of a refusal
+abbrev pub noPlane : Plane
+noPlane = record { normal = tab 3 (λ r. zeroF); offset = zeroF }
+
+unfoldable pub planeNew : List Float → Float → PlaneAnswer
+planeNew n d = record {
+  refusal = firstOf (normalReasons n);
+  plane = kept (firstOf (normalReasons n)) noPlane (unitPlane n d);
+}

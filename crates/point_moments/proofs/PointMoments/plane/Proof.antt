@@ -1,0 +1,34 @@
+-- `point_moments::PointMoments::plane` meets its contract: two tests, and the callees' results put together. Assumes nothing.
+use borrow.Author.Needs.{needs}
+use Rattle.point_moments.specs.Plane.{planeOf}
+use Rattle.point_moments.proofs.PointMoments.plane.Statement.{statement}
+use Rattle.point_moments.proofs.PointMoments.plane.Tie as tie
+
+returns : tie.Need-returns
+unfolding planeOf
+returns c = rw (c .if1 .taken)
+
+returns-2 : tie.Need-returns-2
+unfolding planeOf
+returns-2 c = rw (c .before .before .before .if1 .left, ← c .before .before .rising .ensures, c .if2 .taken)
+
+returns-3 : tie.Need-returns-3
+unfolding planeOf
+returns-3 c =
+    let tested = c .before .before .before .before in
+    let made = tested .before .before in
+    rw (made .before .if1 .left, ← made .rising .ensures, tested .if2 .left, c .dot3 .ensures, c .before .mean-of .ensures)
+
+pub plane-spec : {M : Type 1} → statement M
+plane-spec =
+    tie.close
+    (tie.spec
+    returns
+    (λ c κs. search needs)
+    returns-2
+    (λ c κs. tt)
+    (λ c κs. tt)
+    (λ c. search needs)
+    (λ c. search needs)
+    (λ c. search needs)
+    returns-3)

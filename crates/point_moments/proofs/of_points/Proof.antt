@@ -1,0 +1,46 @@
+-- `point_moments::of_points` meets its contract: after i turns the moments are those of the first i points. Assumes nothing.
+use Prim.Native.Nat.{_≤_, _-_}
+use mathlib.Core.Path.{_≡_}
+use native.Mathlib.Omega.{arith}
+use native.Mathlib.Numerals.{add-one}
+use borrow.Author.Needs.{needs}
+use Rattle.point_moments.specs.Moments.{ofPoints}
+use Rattle.point_moments.proofs.of_points.Statement.{statement}
+use Rattle.point_moments.proofs.of_points.Tie as tie
+
+abbrev Inv-loop : tie.InvT-loop
+Inv-loop points n m₀ i₀ m i = (i ≤ n) × (m ≡ ofPoints i points)
+
+abbrev μ-loop : tie.MeasureT-loop
+μ-loop points n m₀ i₀ m i = n - i
+
+loop-holds : tie.Need-loop-holds Inv-loop μ-loop
+unfolding ofPoints
+loop-holds c = search needs
+
+loop-again : tie.Need-loop-again Inv-loop μ-loop
+unfolding ofPoints
+loop-again c =
+    let at = c .before .before .before .loop in
+    (search needs, rw (c .with-point .ensures, c .before .three .ensures, at .inv .1, add-one (at .i)))
+
+returns : tie.Need-returns Inv-loop μ-loop
+returns c =
+    let e : c .before .before .before .before .args .n ≡ c .before .loop .i = omega arith in
+    rw e (c .before .loop .inv .1)
+
+pub of-points-spec : {M : Type 1} → statement M
+of-points-spec =
+    tie.close
+    (tie.spec
+    Inv-loop
+    μ-loop
+    (λ c κs. tt)
+    loop-holds
+    (λ c. omega arith)
+    (λ c κs. omega arith)
+    (λ c κs. tt)
+    (λ c. omega arith)
+    (λ c. omega arith)
+    loop-again
+    returns)

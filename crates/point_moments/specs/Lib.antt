@@ -1,0 +1,3 @@
+pub mod Moments
+pub mod Scatter
+pub mod Plane

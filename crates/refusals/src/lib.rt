@@ -1,0 +1,1 @@
+// Why a call is turned away, and what it leaves then: definitions and laws alone.

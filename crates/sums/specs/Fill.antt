@@ -1,0 +1,135 @@
+-- What a loop that fills leaves in an array: definitions, then their laws over the number of places filled. Assumes nothing.
+use Prim.Native.Nat.{ℕ, zero, suc, _+_, _-_, _*_, _<_, _≤_}
+use mathlib.Core.Path.{_≡_, refl, sym, ap, _∙_}
+use mathlib.Core.List.{List, [], _∷_, _++_, append-assoc, append-nil}
+use mathlib.Core.Bool.{Bool, true, false}
+use native.Mathlib.Nat.{not-suc-le-zero, add-zero, sub-zero, zero-mul, suc-mul, le-of-eq}
+use native.Mathlib.Numerals.{add-one}
+use native.Mathlib.Omega.{arith}
+use lib.Dec.{eqb}
+use lib.ListN.{length, getD, set, take, drop, replicate, length-append, length-drop, length-replicate, getD-replicate, take-append-drop, drop-of-length-le, List·getD-append}
+use lib.Seq.{getD-set-same, getD-set-other, getD-append-add, getD-take, getD-drop, length-take-le, drop-cons, drop-drop, drop-append-add, take-at, set-at}
+use lib.Ieee.{Float, nan}
+use borrow.Author.Tests.{eqb-true, eqb-false}
+use Rattle.sums.specs.Sum.{zeroF, tab, grid}
+use Rattle.sums.specs.Laws.{length-tab, getD-tab, tab-more, tab-same, length-grid, grid-column}
+
+-- the first n numbers of l are f 0, .., f (n - 1)
+abbrev pub First : ℕ → List Float → (ℕ → Float) → Type 0
+First n l f = (k : ℕ) → k < n → getD l k nan ≡ f k
+
+-- l with f 0, .., f (n - 1) from the place `from` on, the others as they were
+unfoldable pub written : List Float → ℕ → ℕ → (ℕ → Float) → List Float
+written l from n f = take from l ++ (tab n f ++ drop (from + n) l)
+
+-- n numbers: f 0, .., f (width - 1), and +0 from there on
+unfoldable pub padded : ℕ → ℕ → (ℕ → Float) → List Float
+padded n width f = tab width f ++ replicate (n - width) zeroF
+
+-- ---- First: a loop before its first turn, and after one more
+pub first-none : (l : List Float) (f : ℕ → Float) → First 0 l f
+first-none l f k h = absurd (not-suc-le-zero h)
+
+pub first-more : (l : List Float) (f : ℕ → Float) (n : ℕ) (v : Float) → n < length l → v ≡ f n → First n l f → First (n + 1) (set l n v) f
+first-more l f n v w e p k h = go (eqb k n) refl
+  where
+    go : (b : Bool) → eqb k n ≡ b → getD (set l n v) k nan ≡ f k
+    go true q = let z : k ≡ n = eqb-true k n q in rw z (getD-set-same l n v nan w ∙ e)
+    go false q = let z : k ≡ n → ⊥ = eqb-false k n q in getD-set-other l n k v nan z ∙ p k (omega arith)
+
+-- ---- written: a loop before its first turn, and after one more
+pub written-none : (l : List Float) (from : ℕ) (f : ℕ → Float) → l ≡ written l from 0 f
+unfolding written
+written-none l from f = rw (add-zero, take-append-drop)
+
+pub written-more : (l : List Float) (from n : ℕ) (f : ℕ → Float) → from + n < length l → set (written l from n f) (from + n) (f n) ≡ written l from (n + 1) f
+unfolding written
+written-more l from n f h =
+    let front = take from l ++ tab n f in
+    let next = drop (suc (from + n)) l in
+    let size : length front ≡ from + n = simp (length-append, length-tab, length-take-le from l (omega arith)) in
+    let one : tab (n + 1) f ≡ tab n f ++ (f n ∷ []) = rw add-one (tab-more n f) in
+    let e : from + (n + 1) ≡ suc (from + n) = omega arith in
+    let left : set (take from l ++ (tab n f ++ drop (from + n) l)) (from + n) (f n) ≡ front ++ f n ∷ next = rw (← append-assoc (take from l) (tab n f) (drop (from + n) l), drop-cons l (from + n) nan h) (set-at front _ next (f n) (from + n) size) in
+    left ∙ simp (one, e, append-assoc)
+
+pub length-written : (l : List Float) (from n : ℕ) (f : ℕ → Float) → from + n ≤ length l → length (written l from n f) ≡ length l
+unfolding written
+length-written l from n f h = simp (length-append, length-tab, length-drop, length-take-le from l (omega arith)) (omega arith)
+
+-- equal numbers
+pub written-same : (l : List Float) (from n : ℕ) (f g : ℕ → Float) → ((k : ℕ) → k < n → f k ≡ g k) → written l from n f ≡ written l from n g
+unfolding written
+written-same l from n f g h = rw (tab-same n f g h)
+
+-- what a caller reads: the places before, the places written, and those after
+pub written-before : (l : List Float) (from n : ℕ) (f : ℕ → Float) (k : ℕ) → from ≤ length l → k < from → getD (written l from n f) k nan ≡ getD l k nan
+unfolding written
+written-before l from n f k h j =
+    let m : k < length (take from l) = rw (length-take-le from l h) j in
+    List·getD-append (take from l) _ nan k m ∙ getD-take from l k nan j
+
+pub written-inside : (l : List Float) (from n : ℕ) (f : ℕ → Float) (k : ℕ) → from ≤ length l → k < n → getD (written l from n f) (from + k) nan ≡ f k
+unfolding written
+written-inside l from n f k h j =
+    let m : k < length (tab n f) = rw length-tab j in
+    let e : length (take from l) ≡ from = length-take-le from l h in
+    rw e at (getD-append-add (take from l) (tab n f ++ drop (from + n) l) k nan) ∙ List·getD-append (tab n f) _ nan k m ∙ getD-tab n f k j
+
+pub written-after : (l : List Float) (from n : ℕ) (f : ℕ → Float) (k : ℕ) → from ≤ length l → getD (written l from n f) (from + n + k) nan ≡ getD l (from + n + k) nan
+unfolding written
+written-after l from n f k h =
+    let front = take from l ++ tab n f in
+    let e : length front ≡ from + n = simp (length-append, length-tab, length-take-le from l h) in
+    rw (← append-assoc (take from l) (tab n f) (drop (from + n) l)) (rw e at (getD-append-add front (drop (from + n) l) k nan) ∙ getD-drop (from + n) l k nan)
+
+-- A matrix that is filled column by column, of the numbers l: before the first column, after one more, and after all.
+pub columns-none : (rows : ℕ) (f : ℕ → ℕ → Float) (l : List Float) → l ≡ grid rows 0 f ++ drop (0 * rows) l
+columns-none rows f l = rw zero-mul
+
+pub columns-more : (rows c : ℕ) (f : ℕ → ℕ → Float) (l m m′ : List Float) → m ≡ grid rows c f ++ drop (c * rows) l → m′ ≡ written m (c * rows) rows (λ r. f r c) → m′ ≡ grid rows (c + 1) f ++ drop ((c + 1) * rows) l
+unfolding written
+columns-more rows c f l m m′ p q =
+    let size : length (grid rows c f) ≡ c * rows = length-grid rows c f in
+    let front : take (c * rows) m ≡ grid rows c f = rw p (take-at (grid rows c f) _ (c * rows) size) in
+    let rest : drop (c * rows + rows) m ≡ drop (c * rows + rows) l = rw p (rw size at (drop-append-add (grid rows c f) (drop (c * rows) l) rows) ∙ drop-drop rows (c * rows) l) in
+    q ∙ rw (front, rest, add-one c, suc-mul, grid-column rows c f, append-assoc)
+
+pub columns-all : (rows cols : ℕ) (f : ℕ → ℕ → Float) (l m : List Float) → length l ≡ cols * rows → m ≡ grid rows cols f ++ drop (cols * rows) l → m ≡ grid rows cols f
+columns-all rows cols f l m h p = p ∙ rw (drop-of-length-le l (le-of-eq h), append-nil)
+
+-- ---- padded: a loop before its first turn, and after one more
+pub padded-none : (n : ℕ) (f : ℕ → Float) → replicate n zeroF ≡ padded n 0 f
+unfolding padded
+padded-none n f = rw sub-zero
+
+pub padded-more : (n k : ℕ) (f : ℕ → Float) → k < n → set (padded n k f) k (f k) ≡ padded n (k + 1) f
+unfolding padded
+padded-more n k f h =
+    let e : n - k ≡ suc (n - (k + 1)) = omega arith in
+    let rest = replicate (n - (k + 1)) zeroF in
+    let one : tab (k + 1) f ≡ tab k f ++ (f k ∷ []) = rw add-one (tab-more k f) in
+    rw (e, set-at (tab k f) zeroF rest (f k) k (length-tab k f), one, append-assoc)
+
+pub length-padded : (n width : ℕ) (f : ℕ → Float) → width ≤ n → length (padded n width f) ≡ n
+unfolding padded
+length-padded n width f h = simp (length-append, length-tab, length-replicate) (omega arith)
+
+-- what a caller reads: the first numbers, and the others
+pub padded-first : (n width : ℕ) (f : ℕ → Float) → First width (padded n width f) f
+unfolding padded
+padded-first n width f k h =
+    let l : k < length (tab width f) = rw length-tab h in
+    List·getD-append (tab width f) _ nan k l ∙ getD-tab width f k h
+
+pub padded-rest : (n width : ℕ) (f : ℕ → Float) (k : ℕ) → width ≤ k → k < n → getD (padded n width f) k nan ≡ zeroF
+unfolding padded
+padded-rest n width f k h l =
+    let e : k ≡ length (tab width f) + (k - width) = rw length-tab (omega arith) in
+    let m : k - width < n - width = omega arith in
+    rw e (getD-append-add (tab width f) (replicate (n - width) zeroF) (k - width) nan ∙ getD-replicate (n - width) (k - width) zeroF nan m)
+
+-- equal numbers
+pub padded-same : (n width : ℕ) (f g : ℕ → Float) → ((k : ℕ) → k < width → f k ≡ g k) → padded n width f ≡ padded n width g
+unfolding padded
+padded-same n width f g h = rw (tab-same width f g h)
