@@ -1,11 +1,16 @@
 -- Every case of the table holds, by computing. Assumes nothing.
 use lib.Dec.{T}
-use lib.Ieee.{ofBits, toBits}
+use lib.Ieee.{ofBits, toBits, add, mul, sub, div, neg, lt, le}
 use Rattle.square_root.specs.Computed.{squareRoot, sqrtOf}
 use Rattle.total_order.specs.Key.{keyOf}
 use Rattle.total_order.specs.Three.{before, orderOf}
-use Rattle.worked_cases.specs.Table.{every, table, caseE, caseG, caseK}
+use Rattle.decomposition.specs.Axes.{risingOf}
+use Rattle.moment_matrices.specs.Matrices.{movedOuter, scatterOf}
+use Rattle.point_moments.specs.Moments.{withPoint, transformed, ofPoints, pointReasons, fromPoints}
+use Rattle.point_moments.specs.Scatter.{meanAndScatter}
+use Rattle.point_moments.specs.Plane.{planeOf}
+use Rattle.worked_cases.specs.Table.{every, table, caseA, caseB, caseC, caseD, caseE, caseF, caseG, caseK}
 
 pub worked : T (every table)
-unfolding table caseE caseG caseK orderOf before keyOf squareRoot sqrtOf toBits ofBits
+unfolding table caseA caseB caseC caseD caseE caseF caseG caseK orderOf before keyOf squareRoot sqrtOf toBits ofBits add mul sub div neg lt le risingOf movedOuter scatterOf withPoint transformed ofPoints pointReasons fromPoints meanAndScatter planeOf
 worked = tt

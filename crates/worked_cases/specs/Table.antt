@@ -1,9 +1,16 @@
 -- Document 01's worked cases that are marked to be proved: what the definitions give, beside what the paper says. Definitions only.
 use mathlib.Core.Bool.{Bool, true, false, _&&_}
-use mathlib.Core.List.{List, [], _∷_}
+use mathlib.Core.List.{List, [], _∷_, map}
 use Prim.Native.Nat.{ℕ}
 use lib.Dec.{eqb}
-use lib.Ieee.{binary64, ofBits, toBits}
+use lib.Ieee.{Float, binary64, ofBits, toBits}
+use Rattle.lists.specs.Part.{_!_}
+use Rattle.point_moments.specs.Moments.{momentsList, fromPoints, transformed}
+use Rattle.point_moments.specs.Scatter.{meanAndScatter, meanList}
+use Rattle.point_moments.specs.Plane.{planeOf}
+use Rattle.point_moments.specs.declared.PointMoments.{PointMoments}
+use Rattle.point_moments.specs.declared.plane.MomentsPlane.{MomentsPlane}
+use Rattle.point_moments.specs.declared.plane.MomentsPlane.the-variants.{Found, NoPlane}
 use Rattle.square_root.specs.Computed.{squareRoot}
 use Rattle.total_order.specs.declared.Order.{Order}
 use Rattle.total_order.specs.Three.{orderOf}
@@ -23,7 +30,7 @@ abbrev pub every : List Case → Bool
 every [] = true
 every (c ∷ cs) = same (c .found) (c .paper) && every cs
 
--- patterns of small whole numbers
+-- patterns of numbers
 abbrev plusZero : ℕ
 plusZero = 0
 
@@ -36,8 +43,33 @@ one = 0x3ff0_0000_0000_0000
 abbrev two : ℕ
 two = 0x4000_0000_0000_0000
 
+abbrev three : ℕ
+three = 0x4008_0000_0000_0000
+
 abbrev four : ℕ
 four = 0x4010_0000_0000_0000
+
+abbrev five : ℕ
+five = 0x4014_0000_0000_0000
+
+abbrev six : ℕ
+six = 0x4018_0000_0000_0000
+
+abbrev nine : ℕ
+nine = 0x4022_0000_0000_0000
+
+abbrev twenty : ℕ
+twenty = 0x4034_0000_0000_0000
+
+abbrev hundred : ℕ
+hundred = 0x4059_0000_0000_0000
+
+-- the numbers of patterns, and the patterns of numbers
+abbrev numbers : List ℕ → List Float
+numbers l = map (ofBits binary64) l
+
+abbrev patterns : List Float → List ℕ
+patterns l = map (toBits binary64) l
 
 abbrev places : Order → List ℕ
 places o = o .first ∷ o .second ∷ o .third ∷ []
@@ -45,9 +77,62 @@ places o = o .first ∷ o .second ∷ o .third ∷ []
 abbrev rootBits : ℕ → ℕ
 rootBits b = toBits binary64 (squareRoot (ofBits binary64 b))
 
+-- of a list of points, by their patterns
+abbrev momentsFrom : List ℕ → PointMoments
+momentsFrom p = fromPoints (numbers p) .moments
+
+-- 1 for found, 0 for none
+abbrev flag : Bool → ℕ
+flag true = 1
+flag false = 0
+
+abbrev found : MomentsPlane → ℕ
+found (Found n0 n1 n2 offset v0 v1 v2) = 1
+found NoPlane = 0
+
+-- (0,0,0), (2,0,0), (0,2,0), (2,2,0)
+abbrev corners : List ℕ
+corners = 0 ∷ 0 ∷ 0 ∷ two ∷ 0 ∷ 0 ∷ 0 ∷ two ∷ 0 ∷ two ∷ two ∷ 0 ∷ []
+
+-- three by three, by columns
+abbrev identity : List ℕ
+identity = one ∷ 0 ∷ 0 ∷ 0 ∷ one ∷ 0 ∷ 0 ∷ 0 ∷ one ∷ []
+
+-- a: no points, thirteen zeros
+unfoldable pub caseA : Case
+caseA = record { found = patterns (momentsList (momentsFrom [])); paper = 0 ∷ 0 ∷ 0 ∷ 0 ∷ 0 ∷ 0 ∷ 0 ∷ 0 ∷ 0 ∷ 0 ∷ 0 ∷ 0 ∷ 0 ∷ [] }
+
+-- b: (1,2,3)
+unfoldable pub caseB : Case
+caseB = record {
+  found = patterns (momentsList (momentsFrom (one ∷ two ∷ three ∷ [])));
+  paper = one ∷ one ∷ two ∷ three ∷ one ∷ two ∷ three ∷ two ∷ four ∷ six ∷ three ∷ six ∷ nine ∷ [];
+}
+
+-- c: the four corners have the mean (1,1,0) and the scatter diagonal 1, 1, 0, rest 0
+unfoldable pub caseC : Case
+caseC = record {
+  found = flag (meanAndScatter (momentsFrom corners) .found) ∷ patterns (meanList (meanAndScatter (momentsFrom corners)));
+  paper = 1 ∷ one ∷ one ∷ 0 ∷ one ∷ 0 ∷ 0 ∷ 0 ∷ one ∷ 0 ∷ 0 ∷ 0 ∷ 0 ∷ [];
+}
+
+-- d: c under identity and shift (0,0,5) has the sum (4,4,20), xz 20, zz 100
+abbrev shifted : List Float
+shifted = momentsList (transformed (momentsFrom corners) (numbers identity) (numbers (0 ∷ 0 ∷ five ∷ [])))
+
+unfoldable pub caseD : Case
+caseD = record {
+  found = patterns ((shifted ! 1) ∷ (shifted ! 2) ∷ (shifted ! 3) ∷ (shifted ! 10) ∷ (shifted ! 12) ∷ []);
+  paper = four ∷ four ∷ twenty ∷ twenty ∷ hundred ∷ [];
+}
+
 -- e: of the eigenvalues 1, 1, 0 the third comes first, and the equal ones stay in index order
 unfoldable pub caseE : Case
 caseE = record { found = places (orderOf one one plusZero); paper = 2 ∷ 0 ∷ 1 ∷ [] }
+
+-- f: with the eigenvalues 0, 1e-12, 200 and a count of 4, `plane` accepts
+unfoldable pub caseF : Case
+caseF = record { found = found (planeOf (momentsFrom corners) (plusZero ∷ 0x3d71_9799_812d_ea11 ∷ 0x4069_0000_0000_0000 ∷ identity)) ∷ []; paper = 1 ∷ [] }
 
 -- g: of -0, 0, 1 the -0 sorts first
 unfoldable pub caseG : Case
@@ -61,4 +146,4 @@ caseK = record {
 }
 
 unfoldable pub table : List Case
-table = caseE ∷ caseG ∷ caseK ∷ []
+table = caseA ∷ caseB ∷ caseC ∷ caseD ∷ caseE ∷ caseF ∷ caseG ∷ caseK ∷ []
