@@ -1,4 +1,4 @@
--- Numbers of a list by their places. Assumes nothing.
+-- Numbers of a list by their places. Definitions only.
 use Prim.Native.Nat.{ℕ}
 use mathlib.Core.List.{List}
 use lib.ListN.{getD}

@@ -1,6 +1,7 @@
 // Numbers between lent lists and arrays by value.
 ghost use mathlib.Core.Path.{_≡_};
 ghost use Prim.Native.Nat.{_+_, _≤_};
+ghost use mathlib.Core.List.{_∷_, _++_};
 ghost use lib.ListN.{length};
 ghost use Rattle.lists.specs.Part.{part};
 
@@ -25,6 +26,45 @@ pub fn nine(l: &[f64], at: usize) -> [f64; 9]
         l[at + 6],
         l[at + 7],
         l[at + 8],
+    ]
+}
+
+pub fn three_and_nine(a: [f64; 3], b: [f64; 9]) -> [f64; 12]
+    ensures { λ r. ⌜ r ≡ part 3 a 0 ++ part 9 b 0 ⌝ }
+{
+    [
+        a[0],
+        a[1],
+        a[2],
+        b[0],
+        b[1],
+        b[2],
+        b[3],
+        b[4],
+        b[5],
+        b[6],
+        b[7],
+        b[8],
+    ]
+}
+
+pub fn one_and_twelve(x: f64, l: [f64; 12]) -> [f64; 13]
+    ensures { λ r. ⌜ r ≡ x ∷ part 12 l 0 ⌝ }
+{
+    [
+        x,
+        l[0],
+        l[1],
+        l[2],
+        l[3],
+        l[4],
+        l[5],
+        l[6],
+        l[7],
+        l[8],
+        l[9],
+        l[10],
+        l[11],
     ]
 }
 

@@ -1,10 +1,5 @@
 // The calls of a host on moments as lists: each answers 0, or the number of the reason to refuse it, and then it writes nothing.
-ghost use mathlib.Core.Path.{_≡_};
-ghost use Rattle.refusals.specs.Refusal.{Answered};
-ghost use Rattle.point_moments.specs.Moments.{momentsOf};
-ghost use Rattle.point_moments.specs.Scatter.{meanAndScatter};
-ghost use Rattle.point_moments.specs.Plane.{planeOf};
-ghost use Rattle.moment_lists.specs.Calls.{gatherRefusal, gathered, pushRefusal, pushed, mergeRefusal, joined, moveRefusal, moved, meanRefusal, meanAnswer, planeRefusal, planeAnswer};
+ghost use Rattle.moment_lists.specs.Calls.{FromPoints, Pushes, Merges, Transforms, FindsMean, FindsPlane};
 use decomposition::DECOMPOSITION;
 use point_moments::MOMENTS;
 use point_moments::PointMoments;
@@ -12,7 +7,7 @@ use point_moments::plane::MomentsPlane;
 
 // The moments of points, three numbers each.
 pub fn from_points(points: &[f64], moments: &mut [f64]) -> u32
-    ensures { λ r. ⌜ Answered (gatherRefusal (now (points .entry)) (now (moments .entry))) r (now (moments .entry)) (now (moments .exit)) (gathered (now (points .entry))) ⌝ }
+    ensures { λ r. ⌜ FromPoints (now (points .entry)) (now (moments .entry)) r (now (moments .exit)) ⌝ }
 {
     if moments.len() != MOMENTS {
         return 3;
@@ -28,7 +23,7 @@ pub fn from_points(points: &[f64], moments: &mut [f64]) -> u32
 
 // One point more.
 pub fn push(moments: &mut [f64], point: &[f64]) -> u32
-    ensures { λ r. ⌜ Answered (pushRefusal (now (moments .entry)) (now (point .entry))) r (now (moments .entry)) (now (moments .exit)) (pushed (now (moments .entry)) (now (point .entry))) ⌝ }
+    ensures { λ r. ⌜ Pushes (now (moments .entry)) (now (point .entry)) r (now (moments .exit)) ⌝ }
 {
     if moments.len() != MOMENTS {
         return 3;
@@ -43,7 +38,7 @@ pub fn push(moments: &mut [f64], point: &[f64]) -> u32
 
 // Another set more.
 pub fn merge(moments: &mut [f64], other: &[f64]) -> u32
-    ensures { λ r. ⌜ Answered (mergeRefusal (now (moments .entry)) (now (other .entry))) r (now (moments .entry)) (now (moments .exit)) (joined (now (moments .entry)) (now (other .entry))) ⌝ }
+    ensures { λ r. ⌜ Merges (now (moments .entry)) (now (other .entry)) r (now (moments .exit)) ⌝ }
 {
     if moments.len() != MOMENTS {
         return 3;
@@ -58,7 +53,7 @@ pub fn merge(moments: &mut [f64], other: &[f64]) -> u32
 
 // The moments of the points a·p + b.
 pub fn transformed(moments: &[f64], a: &[f64], b: &[f64], out: &mut [f64]) -> u32
-    ensures { λ r. ⌜ Answered (moveRefusal (now (moments .entry)) (now (a .entry)) (now (b .entry)) (now (out .entry))) r (now (out .entry)) (now (out .exit)) (moved (now (moments .entry)) (now (a .entry)) (now (b .entry))) ⌝ }
+    ensures { λ r. ⌜ Transforms (now (moments .entry)) (now (a .entry)) (now (b .entry)) (now (out .entry)) r (now (out .exit)) ⌝ }
 {
     if moments.len() != MOMENTS {
         return 3;
@@ -79,7 +74,7 @@ pub fn transformed(moments: &[f64], a: &[f64], b: &[f64], out: &mut [f64]) -> u3
 
 // Mean and scatter; where there is none, `found` is 0 and `out` as it was.
 pub fn mean_and_scatter(moments: &[f64], out: &mut [f64], found: &mut u32) -> u32
-    ensures { λ r. ⌜ Answered (meanRefusal (now (moments .entry)) (now (out .entry))) r (now (out .entry), now (found .entry)) (now (out .exit), now (found .exit)) (meanAnswer (meanAndScatter (momentsOf (now (moments .entry)))) (now (out .entry))) ⌝ }
+    ensures { λ r. ⌜ FindsMean (now (moments .entry)) (now (out .entry)) (now (found .entry)) r (now (out .exit)) (now (found .exit)) ⌝ }
 {
     if moments.len() != MOMENTS {
         return 3;
@@ -100,7 +95,7 @@ pub fn mean_and_scatter(moments: &[f64], out: &mut [f64], found: &mut u32) -> u3
 
 // Normal, offset and the eigenvalues in rising order; where there is no plane, `found` is 0 and `out` as it was.
 pub fn plane(moments: &[f64], decomposition: &[u64], out: &mut [f64], found: &mut u32) -> u32
-    ensures { λ r. ⌜ Answered (planeRefusal (now (moments .entry)) (now (decomposition .entry)) (now (out .entry))) r (now (out .entry), now (found .entry)) (now (out .exit), now (found .exit)) (planeAnswer (planeOf (momentsOf (now (moments .entry))) (now (decomposition .entry))) (now (out .entry))) ⌝ }
+    ensures { λ r. ⌜ FindsPlane (now (moments .entry)) (now (decomposition .entry)) (now (out .entry)) (now (found .entry)) r (now (out .exit)) (now (found .exit)) ⌝ }
 {
     if moments.len() != MOMENTS {
         return 3;

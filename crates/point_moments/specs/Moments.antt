@@ -1,4 +1,4 @@
--- The moments of a set of points and what is worked out of them, entry by entry. Assumes nothing.
+-- The moments of a set of points and what is worked out of them, entry by entry. Definitions only.
 use Prim.Native.Nat.{ℕ, zero, suc, _/_, _%_}
 use mathlib.Core.List.{List, [], _∷_, _++_}
 use mathlib.Core.Bool.{not, _||_}

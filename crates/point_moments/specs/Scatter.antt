@@ -1,4 +1,4 @@
--- The mean of a set of points, the scatter about it, and the centred frame, entry by entry. Assumes nothing.
+-- The mean of a set of points, the scatter about it, and the centred frame, entry by entry. Definitions only.
 use Prim.Native.Nat.{ℕ}
 use mathlib.Core.Bool.{Bool, not}
 use mathlib.Core.List.{List, _∷_, _++_}

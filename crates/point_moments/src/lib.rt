@@ -59,24 +59,9 @@ impl PointMoments {
     pub fn to_list(self) -> [f64; MOMENTS]
         ensures { λ r. ⌜ r ≡ momentsList self ⌝ }
     {
-        let n = self.count;
         let s = self.sum;
         let o = self.outer;
-        [
-            n,
-            s[0],
-            s[1],
-            s[2],
-            o[0],
-            o[1],
-            o[2],
-            o[3],
-            o[4],
-            o[5],
-            o[6],
-            o[7],
-            o[8],
-        ]
+        lists::one_and_twelve(self.count, lists::three_and_nine(s, o))
     }
 
     pub fn write(self, l: &mut [f64])

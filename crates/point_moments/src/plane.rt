@@ -12,7 +12,7 @@ pub enum MomentsPlane {
 }
 
 impl PointMoments {
-    // None for fewer than three points or no unique normal. Where the count is not below 3 there is a mean.
+    // None for fewer than three points or no unique normal. A count that is not below 3 has a mean: `has-mean` of the proofs.
     pub fn plane(self, decomposition: &[u64]) -> MomentsPlane
         requires { ⌜ length (now decomposition) ≡ DECOMPOSITION ⌝ }
         ensures { λ r. ⌜ r ≡ planeOf self (now (decomposition .entry)) ⌝ }

@@ -70,20 +70,7 @@ impl MeanAndScatter {
     {
         let u = self.mean;
         let s = self.scatter;
-        [
-            u[0],
-            u[1],
-            u[2],
-            s[0],
-            s[1],
-            s[2],
-            s[3],
-            s[4],
-            s[5],
-            s[6],
-            s[7],
-            s[8],
-        ]
+        lists::three_and_nine(u, s)
     }
 }
 
@@ -105,24 +92,9 @@ impl Centred {
     pub fn to_list(self) -> [f64; CENTRED]
         ensures { λ r. ⌜ r ≡ centredList self ⌝ }
     {
-        let n = self.count;
         let u = self.mean;
         let s = self.scatter;
-        [
-            n,
-            u[0],
-            u[1],
-            u[2],
-            s[0],
-            s[1],
-            s[2],
-            s[3],
-            s[4],
-            s[5],
-            s[6],
-            s[7],
-            s[8],
-        ]
+        lists::one_and_twelve(self.count, lists::three_and_nine(u, s))
     }
 
     pub fn write(self, l: &mut [f64])
