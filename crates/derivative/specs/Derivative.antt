@@ -1,14 +1,22 @@
 -- The derivatives of a plane's distance in a frame: of Aᵀn, and of nᵀ(A·p + b) at a point p. x is an action, n a normal.
-use Prim.Native.Nat.{ℕ, zero, suc}
+use Prim.Native.Nat.{ℕ, zero, suc, _<_}
+use native.Mathlib.Nat.{le-of-suc-le-suc, not-suc-le-zero}
+use mathlib.Core.Path.{_≡_, ap, _∙_}
 use mathlib.Core.List.{List}
 use lib.ListN.{getD}
 use lib.Ieee.{Float, nan}
-use Rattle.sums.specs.Sum.{_⊗_, sumTo, sumFrom}
+use Rattle.sums.specs.Sum.{_⊗_, sumTo, sumFrom, off}
+use Rattle.sums.specs.Laws.{⊗-comm, sumTo-same, sumFrom-same}
+use Rattle.sums.specs.Fill.{padded, padded-same, first-of}
 use Rattle.derivative.specs.Action.{entryFrom, originPlace, axisPlace}
 
 -- Σ_r n_r · M(r,c), for the matrix M of three rows that starts at the place `from`
 unfoldable pub normalRow : List Float → ℕ → List Float → ℕ → Float
 normalRow x from n c = sumTo 3 (λ r. getD n r nan ⊗ entryFrom x from r c)
+
+-- the same of the column that starts at the place i
+abbrev pub normalAt : List Float → ℕ → List Float → Float
+normalAt x i n = sumTo 3 (λ r. getD n r nan ⊗ getD x (off i r) nan)
 
 -- Σ_l d(l,i) · s_l
 unfoldable pub combined : (ℕ → ℕ → Float) → List Float → ℕ → Float
@@ -35,3 +43,28 @@ abbrev pub rows : List Float → List Float → List Float → ℕ → ℕ → F
 rows a b c zero i = getD a i nan
 rows a b c (suc zero) i = getD b i nan
 rows a b c (suc (suc l)) i = getD c i nan
+
+-- ---- laws
+
+-- the two factors of each product may be swapped
+pub combined-comm : (d : ℕ → ℕ → Float) (s : List Float) (i : ℕ) → sumTo 3 (λ l. getD s l nan ⊗ d l i) ≡ combined d s i
+unfolding combined
+combined-comm d s i = sumTo-same 3 _ _ (λ l h. ⊗-comm (getD s l nan) (d l i))
+
+-- of rows that are D's, the sums over three rows are m and P
+
+module _ (x n : List Float) (width : ℕ) (a b c : List Float) (ha : a ≡ padded 9 width (dAn x n 0)) (hb : b ≡ padded 9 width (dAn x n 1)) (hc : c ≡ padded 9 width (dAn x n 2)) where
+  rows-are : (i : ℕ) → i < width → (l : ℕ) → l < 3 → rows a b c l i ≡ dAn x n l i
+  rows-are i h zero m = first-of 9 width _ a ha i h
+  rows-are i h (suc zero) m = first-of 9 width _ b hb i h
+  rows-are i h (suc (suc zero)) m = first-of 9 width _ c hc i h
+  rows-are i h (suc (suc (suc l))) m = absurd (not-suc-le-zero (le-of-suc-le-suc (le-of-suc-le-suc (le-of-suc-le-suc m))))
+
+  pub scatter-row : (s : List Float) → padded 9 width (combined (rows a b c) s) ≡ padded 9 width (dScatter x n s)
+  unfolding combined
+  scatter-row s = padded-same 9 width _ _ (λ i h. sumTo-same 3 _ _ (λ l m. ap (λ y. y ⊗ getD s l nan) (rows-are i h l m)))
+
+  pub along-row : (p o : List Float) → o ≡ padded 9 width (normalRow x originPlace n) → padded 9 width (shifted (λ i. getD o i nan) (rows a b c) p) ≡ padded 9 width (dAlong x n p)
+  unfolding shifted
+  along-row p o ho =
+      padded-same 9 width _ _ (λ i h. ap (λ y. sumFrom y 3 (λ l. rows a b c l i ⊗ getD p l nan)) (first-of 9 width _ o ho i h) ∙ sumFrom-same _ 3 _ _ (λ l m. ap (λ y. y ⊗ getD p l nan) (rows-are i h l m)))

@@ -2,12 +2,14 @@
 ghost use mathlib.Core.Path.{_≡_};
 ghost use Rattle.sums.specs.Sum.{dot, product, transpose, plus, outer, scaled};
 
+// a·b
 pub fn dot3(a: [f64; 3], b: [f64; 3]) -> f64
     ensures { λ r. ⌜ r ≡ dot 3 a b ⌝ }
 {
     a[0] * b[0] + a[1] * b[1] + a[2] * b[2]
 }
 
+// a x
 pub fn mat_vec(a: [f64; 9], x: [f64; 3]) -> [f64; 3]
     ensures { λ r. ⌜ r ≡ product 3 3 1 a x ⌝ }
 {
@@ -35,18 +37,21 @@ pub fn vec_mat(v: [f64; 3], a: [f64; 9]) -> [f64; 3]
     ]
 }
 
+// aᵀ
 pub fn transposed(a: [f64; 9]) -> [f64; 9]
     ensures { λ r. ⌜ r ≡ transpose 3 3 a ⌝ }
 {
     [a[0], a[3], a[6], a[1], a[4], a[7], a[2], a[5], a[8]]
 }
 
+// a + b
 pub fn plus3(a: [f64; 3], b: [f64; 3]) -> [f64; 3]
     ensures { λ r. ⌜ r ≡ plus 3 a b ⌝ }
 {
     [a[0] + b[0], a[1] + b[1], a[2] + b[2]]
 }
 
+// a b. Each number is read once: reads cost the proof more than sums do.
 pub fn mat_mat(a: [f64; 9], b: [f64; 9]) -> [f64; 9]
     ensures { λ r. ⌜ r ≡ product 3 3 3 a b ⌝ }
 {
@@ -81,6 +86,7 @@ pub fn mat_mat(a: [f64; 9], b: [f64; 9]) -> [f64; 9]
     ]
 }
 
+// (v wᵀ) s, each entry's two factors first
 pub fn outer_scaled(v: [f64; 3], w: [f64; 3], s: f64) -> [f64; 9]
     ensures { λ r. ⌜ r ≡ scaled 9 (outer 3 3 v w) s ⌝ }
 {
@@ -103,13 +109,14 @@ pub fn outer_scaled(v: [f64; 3], w: [f64; 3], s: f64) -> [f64; 9]
     ]
 }
 
-// a s aᵀ
+// (a s) aᵀ, the left product first
 pub fn congruent(a: [f64; 9], s: [f64; 9]) -> [f64; 9]
     ensures { λ r. ⌜ r ≡ product 3 3 3 (product 3 3 3 a s) (transpose 3 3 a) ⌝ }
 {
     mat_mat(mat_mat(a, s), transposed(a))
 }
 
+// a + b, of two matrices
 pub fn plus9(a: [f64; 9], b: [f64; 9]) -> [f64; 9]
     ensures { λ r. ⌜ r ≡ plus 9 a b ⌝ }
 {
@@ -126,6 +133,7 @@ pub fn plus9(a: [f64; 9], b: [f64; 9]) -> [f64; 9]
     ]
 }
 
+// v wᵀ
 pub fn outer3(v: [f64; 3], w: [f64; 3]) -> [f64; 9]
     ensures { λ r. ⌜ r ≡ outer 3 3 v w ⌝ }
 {
@@ -148,6 +156,7 @@ pub fn outer3(v: [f64; 3], w: [f64; 3]) -> [f64; 9]
     ]
 }
 
+// v s
 pub fn scaled3(v: [f64; 3], s: f64) -> [f64; 3]
     ensures { λ r. ⌜ r ≡ scaled 3 v s ⌝ }
 {

@@ -3,10 +3,7 @@ ghost use mathlib.Core.Path.{_≡_};
 ghost use Rattle.square_root.specs.Computed.{squareRoot};
 ghost use Rattle.total_order.specs.Key.{keyOf};
 ghost use Rattle.refusals.specs.Refusal.{Answered};
-ghost use Rattle.point_moments.specs.Moments.{momentsOf};
-ghost use Rattle.point_moments.specs.Scatter.{meanAndScatter};
-ghost use Rattle.point_moments.specs.Plane.{planeOf};
-ghost use Rattle.moment_lists.specs.Calls.{gatherRefusal, gathered, pushRefusal, pushed, mergeRefusal, joined, moveRefusal, moved, meanRefusal, meanAnswer, planeRefusal, planeAnswer};
+ghost use Rattle.moment_lists.specs.Calls.{FromPoints, Pushes, Merges, Transforms, FindsMean, FindsPlane};
 ghost use Rattle.plane_lists.specs.Calls.{newRefusal, newPlane, SigmaAnswered};
 
 // IEEE 754's squareRoot.
@@ -28,7 +25,7 @@ pub extern "C" fn maghnelt_total_order_key(bits: u64) -> i64
 // The moments of a list of points.
 #[no_mangle]
 pub extern "C" fn maghnelt_moments_from_points(points: &[f64], moments: &mut [f64]) -> u32
-    ensures { λ r. ⌜ Answered (gatherRefusal (now (points .entry)) (now (moments .entry))) r (now (moments .entry)) (now (moments .exit)) (gathered (now (points .entry))) ⌝ }
+    ensures { λ r. ⌜ FromPoints (now (points .entry)) (now (moments .entry)) r (now (moments .exit)) ⌝ }
 {
     moment_lists::from_points(points, moments)
 }
@@ -36,7 +33,7 @@ pub extern "C" fn maghnelt_moments_from_points(points: &[f64], moments: &mut [f6
 // One point more.
 #[no_mangle]
 pub extern "C" fn maghnelt_moments_push(moments: &mut [f64], point: &[f64]) -> u32
-    ensures { λ r. ⌜ Answered (pushRefusal (now (moments .entry)) (now (point .entry))) r (now (moments .entry)) (now (moments .exit)) (pushed (now (moments .entry)) (now (point .entry))) ⌝ }
+    ensures { λ r. ⌜ Pushes (now (moments .entry)) (now (point .entry)) r (now (moments .exit)) ⌝ }
 {
     moment_lists::push(moments, point)
 }
@@ -44,7 +41,7 @@ pub extern "C" fn maghnelt_moments_push(moments: &mut [f64], point: &[f64]) -> u
 // The points of another set too.
 #[no_mangle]
 pub extern "C" fn maghnelt_moments_merge(moments: &mut [f64], other: &[f64]) -> u32
-    ensures { λ r. ⌜ Answered (mergeRefusal (now (moments .entry)) (now (other .entry))) r (now (moments .entry)) (now (moments .exit)) (joined (now (moments .entry)) (now (other .entry))) ⌝ }
+    ensures { λ r. ⌜ Merges (now (moments .entry)) (now (other .entry)) r (now (moments .exit)) ⌝ }
 {
     moment_lists::merge(moments, other)
 }
@@ -57,7 +54,7 @@ pub extern "C" fn maghnelt_moments_transformed(
     b: &[f64],
     out: &mut [f64],
 ) -> u32
-    ensures { λ r. ⌜ Answered (moveRefusal (now (moments .entry)) (now (a .entry)) (now (b .entry)) (now (out .entry))) r (now (out .entry)) (now (out .exit)) (moved (now (moments .entry)) (now (a .entry)) (now (b .entry))) ⌝ }
+    ensures { λ r. ⌜ Transforms (now (moments .entry)) (now (a .entry)) (now (b .entry)) (now (out .entry)) r (now (out .exit)) ⌝ }
 {
     moment_lists::transformed(moments, a, b, out)
 }
@@ -69,7 +66,7 @@ pub extern "C" fn maghnelt_moments_mean_and_scatter(
     out: &mut [f64],
     found: &mut u32,
 ) -> u32
-    ensures { λ r. ⌜ Answered (meanRefusal (now (moments .entry)) (now (out .entry))) r (now (out .entry), now (found .entry)) (now (out .exit), now (found .exit)) (meanAnswer (meanAndScatter (momentsOf (now (moments .entry)))) (now (out .entry))) ⌝ }
+    ensures { λ r. ⌜ FindsMean (now (moments .entry)) (now (out .entry)) (now (found .entry)) r (now (out .exit)) (now (found .exit)) ⌝ }
 {
     moment_lists::mean_and_scatter(moments, out, found)
 }
@@ -82,7 +79,7 @@ pub extern "C" fn maghnelt_moments_plane(
     out: &mut [f64],
     found: &mut u32,
 ) -> u32
-    ensures { λ r. ⌜ Answered (planeRefusal (now (moments .entry)) (now (decomposition .entry)) (now (out .entry))) r (now (out .entry), now (found .entry)) (now (out .exit), now (found .exit)) (planeAnswer (planeOf (momentsOf (now (moments .entry))) (now (decomposition .entry))) (now (out .entry))) ⌝ }
+    ensures { λ r. ⌜ FindsPlane (now (moments .entry)) (now (decomposition .entry)) (now (out .entry)) (now (found .entry)) r (now (out .exit)) (now (found .exit)) ⌝ }
 {
     moment_lists::plane(moments, decomposition, out, found)
 }

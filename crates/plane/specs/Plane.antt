@@ -11,7 +11,7 @@ use Rattle.validate.specs.Finite.{finiteAbove}
 use Rattle.plane.specs.declared.Plane.{Plane}
 use Rattle.plane.specs.declared.PlaneAnswer.{PlaneAnswer}
 
--- how many numbers a plane is
+-- how many numbers a plane is as a list
 abbrev pub PLANE : ℕ
 PLANE = 4
 
@@ -34,17 +34,19 @@ leastNorm = ofBits binary64 0x3d71_9799_812d_ea11
 abbrev pub normalReasons : List Float → List Reason
 normalReasons n = 11 when not (finiteAbove leastNorm (norm n)) ∷ []
 
--- normal / norm and offset / norm, each a division
+-- v / s, each number a division
+abbrev pub divided : List Float → Float → List Float
+divided v s = tab 3 (λ r. div binary64 (v ! r) s)
+
+-- normal / norm and offset / norm
 abbrev pub unitPlane : List Float → Float → Plane
-unitPlane n d = record {
-  normal = tab 3 (λ r. div binary64 (n ! r) (norm n));
-  offset = div binary64 d (norm n);
-}
+unitPlane n d = record { normal = divided n (norm n); offset = div binary64 d (norm n) }
 
 -- four zeros, beside the number of a refusal
 abbrev pub noPlane : Plane
 noPlane = record { normal = tab 3 (λ r. zeroF); offset = zeroF }
 
+-- the plane of a normal of any length
 unfoldable pub planeNew : List Float → Float → PlaneAnswer
 planeNew n d = record {
   refusal = firstOf (normalReasons n);

@@ -2,10 +2,9 @@
 ghost use mathlib.Core.Path.{_≡_};
 ghost use Prim.Native.Nat.{_+_, _≤_};
 ghost use lib.ListN.{length};
-ghost use lib.Ieee.{binary64, div};
-ghost use Rattle.sums.specs.Sum.{_⊗_, sumTo, tab, dot, off};
+ghost use Rattle.sums.specs.Sum.{_⊗_, sumTo, off};
 ghost use Rattle.lists.specs.Part.{_!_};
-ghost use Rattle.plane.specs.Plane.{PLANE, planeOf, planeList, planeNew};
+ghost use Rattle.plane.specs.Plane.{PLANE, planeOf, planeList, divided, planeNew};
 ghost use Rattle.plane.specs.Sigma.{jacobian, pointTerm, planeTerm, variance, deviation};
 
 // The points x with normal·x + offset = 0.
@@ -29,11 +28,11 @@ pub enum Sigma {
 // How many numbers a plane is as a list.
 pub const PLANE: usize = 4;
 
-// The least norm, not itself one, of a normal.
+// The norm of a normal lies above this.
 const LEAST_NORM: f64 = 1e-12;
 
 fn divided3(v: [f64; 3], s: f64) -> [f64; 3]
-    ensures { λ r. ⌜ r ≡ tab 3 (λ k. div binary64 (v ! k) s) ⌝ }
+    ensures { λ r. ⌜ r ≡ divided v s ⌝ }
 {
     [v[0] / s, v[1] / s, v[2] / s]
 }
@@ -71,7 +70,7 @@ impl Plane {
         lists::store(l, &r);
     }
 
-    // The plane of a normal of any length, both divided by that.
+    // The plane of a normal of any length: normal and offset are divided by it.
     pub fn new(normal: [f64; 3], offset: f64) -> PlaneAnswer
         ensures { λ r. ⌜ r ≡ planeNew normal offset ⌝ }
     {
@@ -137,7 +136,7 @@ fn plane_term(j: [f64; 6], c: &[f64]) -> f64
     dot6(q, &j, 0)
 }
 
-// The square root of a variance.
+// The square root of a variance, which has to be finite and positive.
 fn deviation(x: f64) -> Sigma
     ensures { λ r. ⌜ r ≡ deviation x ⌝ }
 {
@@ -147,7 +146,8 @@ fn deviation(x: f64) -> Sigma
     Sigma::Value(square_root::sqrt(x))
 }
 
-// Of a point at `world`, from the covariances of the point and of the plane's normal and centroid.
+// `plane_covariance` is that of the plane's normal and centroid together; `d_world_d_point` takes a displacement of the scanned point,
+// whose covariance is `point_covariance`, to the world.
 pub fn point_to_plane_sigma(
     plane: Plane,
     centroid: [f64; 3],

@@ -1,13 +1,13 @@
 -- What a loop that fills leaves in an array: definitions, then their laws over the number of places filled. Assumes nothing.
-use Prim.Native.Nat.{ℕ, zero, suc, _+_, _-_, _*_, _<_, _≤_}
-use mathlib.Core.Path.{_≡_, refl, sym, ap, _∙_}
+use Prim.Native.Nat.{ℕ, suc, _+_, _-_, _*_, _<_, _≤_}
+use mathlib.Core.Path.{_≡_, refl, ap, _∙_}
 use mathlib.Core.List.{List, [], _∷_, _++_, append-assoc, append-nil}
 use mathlib.Core.Bool.{Bool, true, false}
-use native.Mathlib.Nat.{not-suc-le-zero, add-zero, sub-zero, zero-mul, suc-mul, le-of-eq}
+use native.Mathlib.Nat.{not-suc-le-zero, add-zero, sub-zero, zero-mul, suc-mul, le-of-eq, mul-le-mul-right}
 use native.Mathlib.Numerals.{add-one}
 use native.Mathlib.Omega.{arith}
 use lib.Dec.{eqb}
-use lib.ListN.{length, getD, set, take, drop, replicate, length-append, length-drop, length-replicate, getD-replicate, take-append-drop, drop-of-length-le, List·getD-append}
+use lib.ListN.{length, getD, set, length-set, take, drop, replicate, length-append, length-drop, length-replicate, getD-replicate, take-append-drop, drop-of-length-le, List·getD-append}
 use lib.Seq.{getD-set-same, getD-set-other, getD-append-add, getD-take, getD-drop, length-take-le, drop-cons, drop-drop, drop-append-add, take-at, set-at}
 use lib.Ieee.{Float, nan}
 use borrow.Author.Tests.{eqb-true, eqb-false}
@@ -57,6 +57,22 @@ pub length-written : (l : List Float) (from n : ℕ) (f : ℕ → Float) → fro
 unfolding written
 length-written l from n f h = simp (length-append, length-tab, length-drop, length-take-le from l (omega arith)) (omega arith)
 
+-- A loop that writes over l from a place on: what holds after i turns of n, before the first turn, after one more, and at the end.
+pub record Writing (l : List Float) (from n : ℕ) (f : ℕ → Float) (out : List Float) (i : ℕ) : Type 0 where
+  pub within : i ≤ n
+  pub size : length out ≡ length l
+  pub filled : out ≡ written l from i f
+
+pub writing-none : (l : List Float) (from n : ℕ) (f : ℕ → Float) → Writing l from n f l 0
+writing-none l from n f = record { within = omega arith; size = refl; filled = written-none l from f }
+
+pub writing-more : (l : List Float) (from n : ℕ) (f : ℕ → Float) (out : List Float) (i : ℕ) (v : Float) → from + n ≤ length l → i < n → v ≡ f i → Writing l from n f out i → Writing l from n f (set out (from + i) v) (i + 1)
+writing-more l from n f out i v fit h e p =
+    record { within = omega arith; size = length-set out (from + i) v ∙ p .size; filled = rw (e, p .filled) (written-more l from i f (omega arith)) }
+
+pub writing-all : (l : List Float) (from n : ℕ) (f : ℕ → Float) (out : List Float) (i : ℕ) → n ≤ i → Writing l from n f out i → out ≡ written l from n f
+writing-all l from n f out i h p = let e : i ≡ n = omega arith in rw e at (p .filled)
+
 -- equal numbers
 pub written-same : (l : List Float) (from n : ℕ) (f g : ℕ → Float) → ((k : ℕ) → k < n → f k ≡ g k) → written l from n f ≡ written l from n g
 unfolding written
@@ -83,20 +99,40 @@ written-after l from n f k h =
     let e : length front ≡ from + n = simp (length-append, length-tab, length-take-le from l h) in
     rw (← append-assoc (take from l) (tab n f) (drop (from + n) l)) (rw e at (getD-append-add front (drop (from + n) l) k nan) ∙ getD-drop (from + n) l k nan)
 
--- A matrix that is filled column by column, of the numbers l: before the first column, after one more, and after all.
-pub columns-none : (rows : ℕ) (f : ℕ → ℕ → Float) (l : List Float) → l ≡ grid rows 0 f ++ drop (0 * rows) l
-columns-none rows f l = rw zero-mul
+-- A loop that fills a matrix column by column, over l: what holds after c columns, before the first, after one more, and at the end.
+pub record Columns (rows cols : ℕ) (f : ℕ → ℕ → Float) (l out : List Float) (c : ℕ) : Type 0 where
+  pub within : c ≤ cols
+  pub size : length out ≡ length l
+  pub filled : out ≡ grid rows c f ++ drop (c * rows) l
 
-pub columns-more : (rows c : ℕ) (f : ℕ → ℕ → Float) (l m m′ : List Float) → m ≡ grid rows c f ++ drop (c * rows) l → m′ ≡ written m (c * rows) rows (λ r. f r c) → m′ ≡ grid rows (c + 1) f ++ drop ((c + 1) * rows) l
+pub columns-none : (rows cols : ℕ) (f : ℕ → ℕ → Float) (l : List Float) → Columns rows cols f l l 0
+columns-none rows cols f l = record { within = omega arith; size = refl; filled = rw zero-mul }
+
+-- column c ends within the matrix
+pub column-ends : (rows cols c : ℕ) → c < cols → c * rows + rows ≤ cols * rows
+column-ends rows cols c h = omega (arith, mul-le-mul-right rows h)
+
+pub columns-more : (rows cols : ℕ) (f : ℕ → ℕ → Float) (l out out′ : List Float) (c : ℕ) → length l ≡ cols * rows → c < cols → Columns rows cols f l out c → out′ ≡ written out (c * rows) rows (λ r. f r c) → Columns rows cols f l out′ (c + 1)
 unfolding written
-columns-more rows c f l m m′ p q =
-    let size : length (grid rows c f) ≡ c * rows = length-grid rows c f in
-    let front : take (c * rows) m ≡ grid rows c f = rw p (take-at (grid rows c f) _ (c * rows) size) in
-    let rest : drop (c * rows + rows) m ≡ drop (c * rows + rows) l = rw p (rw size at (drop-append-add (grid rows c f) (drop (c * rows) l) rows) ∙ drop-drop rows (c * rows) l) in
-    q ∙ rw (front, rest, add-one c, suc-mul, grid-column rows c f, append-assoc)
+columns-more rows cols f l out out′ c n h p q =
+    let fits : c * rows + rows ≤ length out = omega (arith, column-ends rows cols c h, p .size) in
+    record {
+      within = omega arith;
+      size = ap length q ∙ length-written out (c * rows) rows _ fits ∙ p .size;
+      filled = one;
+    }
+  where
+    one : out′ ≡ grid rows (c + 1) f ++ drop ((c + 1) * rows) l
+    one =
+        let size : length (grid rows c f) ≡ c * rows = length-grid rows c f in
+        let front : take (c * rows) out ≡ grid rows c f = rw (p .filled) (take-at (grid rows c f) _ (c * rows) size) in
+        let rest : drop (c * rows + rows) out ≡ drop (c * rows + rows) l = rw (p .filled) (rw size at (drop-append-add (grid rows c f) (drop (c * rows) l) rows) ∙ drop-drop rows (c * rows) l) in
+        q ∙ rw (front, rest, add-one c, suc-mul, grid-column rows c f, append-assoc)
 
-pub columns-all : (rows cols : ℕ) (f : ℕ → ℕ → Float) (l m : List Float) → length l ≡ cols * rows → m ≡ grid rows cols f ++ drop (cols * rows) l → m ≡ grid rows cols f
-columns-all rows cols f l m h p = p ∙ rw (drop-of-length-le l (le-of-eq h), append-nil)
+pub columns-all : (rows cols : ℕ) (f : ℕ → ℕ → Float) (l out : List Float) (c : ℕ) → length l ≡ cols * rows → cols ≤ c → Columns rows cols f l out c → out ≡ grid rows cols f
+columns-all rows cols f l out c n h p =
+    let e : c ≡ cols = omega arith in
+    rw e at (p .filled) ∙ rw (drop-of-length-le l (le-of-eq n), append-nil)
 
 -- ---- padded: a loop before its first turn, and after one more
 pub padded-none : (n : ℕ) (f : ℕ → Float) → replicate n zeroF ≡ padded n 0 f
@@ -122,12 +158,31 @@ padded-first n width f k h =
     let l : k < length (tab width f) = rw length-tab h in
     List·getD-append (tab width f) _ nan k l ∙ getD-tab width f k h
 
+pub first-of : (n width : ℕ) (f : ℕ → Float) (l : List Float) → l ≡ padded n width f → First width l f
+first-of n width f l e k h = rw e (padded-first n width f k h)
+
 pub padded-rest : (n width : ℕ) (f : ℕ → Float) (k : ℕ) → width ≤ k → k < n → getD (padded n width f) k nan ≡ zeroF
 unfolding padded
 padded-rest n width f k h l =
     let e : k ≡ length (tab width f) + (k - width) = rw length-tab (omega arith) in
     let m : k - width < n - width = omega arith in
     rw e (getD-append-add (tab width f) (replicate (n - width) zeroF) (k - width) nan ∙ getD-replicate (n - width) (k - width) zeroF nan m)
+
+-- A loop that fills n zeros from the front: what holds after i turns of `width`, before the first turn, after one more, and at the end.
+pub record Filling (n width : ℕ) (f : ℕ → Float) (row : List Float) (i : ℕ) : Type 0 where
+  pub within : i ≤ width
+  pub size : length row ≡ n
+  pub filled : row ≡ padded n i f
+
+pub filling-none : (n width : ℕ) (f : ℕ → Float) → Filling n width f (replicate n zeroF) 0
+filling-none n width f = record { within = omega arith; size = length-replicate n zeroF; filled = padded-none n f }
+
+pub filling-more : (n width : ℕ) (f : ℕ → Float) (row : List Float) (i : ℕ) (v : Float) → width ≤ n → i < width → v ≡ f i → Filling n width f row i → Filling n width f (set row i v) (i + 1)
+filling-more n width f row i v fit h e p =
+    record { within = omega arith; size = length-set row i v ∙ p .size; filled = rw (e, p .filled) (padded-more n i f (omega arith)) }
+
+pub filling-all : (n width : ℕ) (f : ℕ → Float) (row : List Float) (i : ℕ) → width ≤ i → Filling n width f row i → row ≡ padded n width f
+filling-all n width f row i h p = let e : i ≡ width = omega arith in rw e at (p .filled)
 
 -- equal numbers
 pub padded-same : (n width : ℕ) (f g : ℕ → Float) → ((k : ℕ) → k < width → f k ≡ g k) → padded n width f ≡ padded n width g

@@ -1,5 +1,5 @@
 -- Laws of sums, tables and grids, over the length. Assumes nothing.
-use Prim.Native.Nat.{ℕ, zero, suc, _+_, _*_, _<_, _≤_}
+use Prim.Native.Nat.{ℕ, zero, suc, _+_, _*_, _<_}
 use native.Mathlib.Numerals.{add-one}
 use native.Mathlib.Nat.{le-of-suc-le-suc, not-suc-le-zero, zero-mul, zero-add, add-zero, add-suc, suc-mul, mul-comm, mul-le-mul-right}
 use native.Mathlib.Omega.{arith}
@@ -9,7 +9,7 @@ use lib.ListN.{length, getD, take, set, length-append, List·getD-append}
 use lib.Seq.{ext-getD, getD-append-add, take-suc, take-suc-set, take-all, take-length}
 use mathlib.Core.Bool.{Bool, true, false}
 use lib.Ieee.{Float, nan, inf, fin, mul, unlike, up, down}
-use Rattle.sums.specs.Sum.{_⊕_, _⊗_, zeroF, sumTo, sumFrom, tab, grid, off, at, product, transpose, dot}
+use Rattle.sums.specs.Sum.{_⊕_, _⊗_, sumTo, sumFrom, tab, grid, off, at, product, transpose, dot}
 
 -- the sign of a product
 unlike-comm : (s t : Bool) → unlike s t ≡ unlike t s

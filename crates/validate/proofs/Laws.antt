@@ -3,11 +3,11 @@ use Prim.Native.Nat.{ℕ, zero, suc, _+_, _<_}
 use native.Mathlib.Numerals.{add-one}
 use native.Mathlib.Nat.{le-of-suc-le-suc, not-suc-le-zero}
 use native.Mathlib.Omega.{arith}
-use mathlib.Core.Path.{_≡_, refl}
-use mathlib.Core.Bool.{Bool, true, false, _&&_, and-true, and-false, and-eq-true-iff}
+use mathlib.Core.Path.{_≡_, refl, sym}
+use mathlib.Core.Bool.{Bool, true, false, _&&_, and-true, and-false, and-assoc, and-eq-true-iff}
 use mathlib.Core.List.{List, [], _∷_}
 use lib.ListN.{length, getD, drop}
-use lib.Seq.{drop-cons}
+use lib.Seq.{drop-cons, drop-length}
 use lib.Ieee.{Float, nan, inf, fin, lt}
 use lib.Ieee.Scale.{finite}
 use Rattle.validate.specs.Finite.{allFinite, finiteAbove}
@@ -41,15 +41,14 @@ under-top b (inf true) = rw (below-bottom b)
 under-top b (inf false) = and-false (lt b (inf false))
 under-top b (fin s m e) = and-true (lt b (fin s m e))
 
--- the rest of a list from a place on: settled by a number there that is not finite, and otherwise by what comes after it
-module _ (l : List Float) (k : ℕ) (h : k < length l) where
-  pub rest-bad : finite (getD l k nan) ≡ false → allFinite (drop k l) ≡ false
-  unfolding allFinite
-  rest-bad e = rw (drop-cons l k nan h, e)
+-- one number more of a list that is tested from the front: what is found so far, and the rest
+pub tested-more : (found : Bool) (l : List Float) (k : ℕ) → k < length l → found && allFinite (drop k l) ≡ found && finite (getD l k nan) && allFinite (drop (k + 1) l)
+unfolding allFinite
+tested-more found l k h = rw (add-one k, drop-cons l k nan h) (sym (and-assoc found (finite (getD l k nan)) (allFinite (drop (suc k) l))))
 
-  pub rest-good : finite (getD l k nan) ≡ true → allFinite (drop k l) ≡ allFinite (drop (k + 1) l)
-  unfolding allFinite
-  rest-good e = rw (add-one k, drop-cons l k nan h, e)
+pub tested-all : (found : Bool) (l : List Float) → found && allFinite (drop (length l) l) ≡ found
+unfolding allFinite
+tested-all found l = rw drop-length (and-true found)
 
 -- every number of a list is finite exactly if the one at each place is
 pub finite-at : (l : List Float) → allFinite l ≡ true → (k : ℕ) → k < length l → finite (getD l k nan) ≡ true

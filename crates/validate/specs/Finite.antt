@@ -11,7 +11,7 @@ allFinite (x ∷ l) = finite x && allFinite l
 
 -- finite, and above a bound
 unfoldable pub finiteAbove : Float → Float → Bool
-finiteAbove least x = finite x && lt least x
+finiteAbove bound x = finite x && lt bound x
 
 -- finite and positive
 abbrev pub finitePositive : Float → Bool

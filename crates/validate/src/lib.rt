@@ -1,5 +1,6 @@
 // Tests of numbers: finite, and finite and positive.
 ghost use mathlib.Core.Path.{_≡_};
+ghost use mathlib.Core.Bool.{_&&_};
 ghost use lib.Ieee.Scale.{finite};
 ghost use Rattle.validate.specs.Finite.{allFinite, finiteAbove, finitePositive};
 
@@ -9,25 +10,30 @@ pub fn is_finite(x: f64) -> bool
     if -1.0 / 0.0 < x { x < 1.0 / 0.0 } else { false }
 }
 
-// Every number of a list.
+fn both(a: bool, b: bool) -> bool
+    ensures { λ r. ⌜ r ≡ (a && b) ⌝ }
+{
+    if a { b } else { false }
+}
+
+// Every number of a list. No early return: the compiler then tests several numbers at once.
 pub fn all_finite(list: &[f64]) -> bool
     ensures { λ r. ⌜ r ≡ allFinite (now (list .entry)) ⌝ }
 {
+    let mut all = true;
     let mut k = 0;
     while k < list.len() {
-        if !is_finite(list[k]) {
-            return false;
-        }
+        all = both(all, is_finite(list[k]));
         k += 1;
     }
-    true
+    all
 }
 
 // Finite, and above a bound.
-pub fn is_above(x: f64, least: f64) -> bool
-    ensures { λ r. ⌜ r ≡ finiteAbove least x ⌝ }
+pub fn is_above(x: f64, bound: f64) -> bool
+    ensures { λ r. ⌜ r ≡ finiteAbove bound x ⌝ }
 {
-    if least < x { x < 1.0 / 0.0 } else { false }
+    if bound < x { x < 1.0 / 0.0 } else { false }
 }
 
 pub fn is_positive(x: f64) -> bool

@@ -1,36 +1,22 @@
 -- `derivative::normal_row` meets its contract: after c turns the first c numbers are there. Assumes nothing.
-use Prim.Native.Nat.{_≤_, _-_}
-use native.Mathlib.Omega.{arith}
-use mathlib.Core.Path.{_≡_}
-use mathlib.Core.List.{[], _∷_}
-use lib.ListN.{length, length-set, getD}
-use lib.Ieee.{nan}
+use Prim.Native.Nat.{_-_}
 use borrow.Author.Needs.{needs}
-use Rattle.sums.specs.Fill.{padded, padded-none, padded-more}
+use Rattle.sums.specs.Fill.{Filling, filling-none, filling-more, filling-all}
 use Rattle.derivative.specs.Derivative.{normalRow}
 use Rattle.derivative.proofs.normal_row.Statement.{statement}
 use Rattle.derivative.proofs.normal_row.Tie as tie
 
 abbrev Inv-loop : tie.InvT-loop
-Inv-loop x from width n0 n1 n2 row₀ c₀ row c = (c ≤ width) × (length row ≡ 9) × (row ≡ padded 9 c (normalRow x from (n0 ∷ n1 ∷ n2 ∷ [])))
+Inv-loop x from n width row₀ c₀ row c = Filling 9 width (normalRow x from n) row c
 
 abbrev μ-loop : tie.MeasureT-loop
-μ-loop x from width n0 n1 n2 row₀ c₀ row c = width - c
-
-loop-holds : tie.Need-loop-holds Inv-loop μ-loop
-loop-holds c = (search needs, search needs, padded-none 9 _)
+μ-loop x from n width row₀ c₀ row c = width - c
 
 loop-again : tie.Need-loop-again Inv-loop μ-loop
 unfolding normalRow
 loop-again c =
-    let l = c .before .before .before .before .loop in
-    (search needs, simp length-set (l .inv .1), rw (l .inv .2) (padded-more 9 (l .c) _ (omega arith)))
-
-returns : tie.Need-returns Inv-loop μ-loop
-unfolding normalRow
-returns c =
-    let e : c .before .loop .c ≡ c .before .before .args .width = omega arith in
-    rw e at (c .before .loop .inv .2)
+    let l = c .before .before .loop in
+    filling-more 9 _ _ (l .row) (l .c) _ (search needs) (search needs) (c .normal-entry .ensures) (l .inv)
 
 pub normal-row-spec : {M : Type 1} → statement M
 normal-row-spec =
@@ -38,23 +24,13 @@ normal-row-spec =
     (tie.spec
     Inv-loop
     μ-loop
+    (λ c. filling-none 9 _ _)
     (λ c. search needs)
     (λ c. search needs)
-    (λ c. search needs)
-    loop-holds
-    (λ c. search needs)
-    (λ c. search needs)
-    (λ c. search needs)
-    (λ c. search needs)
-    (λ c. search needs)
-    (λ c. search needs)
-    (λ c. search needs)
-    (λ c. search needs)
-    (λ c. search needs)
-    (λ c. search needs)
+    (λ c κs. search needs)
     (λ c. search needs)
     (λ c. search needs)
     (λ c. search needs)
     (λ c. search needs)
     loop-again
-    returns)
+    (λ c. filling-all 9 _ _ _ _ (c .loop-test .left) (c .before .loop .inv)))

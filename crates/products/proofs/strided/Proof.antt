@@ -1,17 +1,16 @@
+-- `products::strided` meets its contract: after k turns the sum is that of the first k products. Assumes nothing.
 use denote.Ref.{now}
 use Prim.Native.Nat.{ℕ, _≤_, _<_, _-_, _*_, _+_}
-use mathlib.Core.Path.{_≡_, refl}
-use native.Mathlib.Omega.{arith}
 use native.Mathlib.Nat.{zero-mul, add-zero}
+use native.Mathlib.Omega.{arith}
+use mathlib.Core.Path.{_≡_}
 use lib.ListN.{length, getD}
 use lib.Ieee.{nan}
+use borrow.Author.Needs.{needs}
 use Rattle.sums.specs.Sum.{sumTo, _⊗_}
 use Rattle.sums.specs.Laws.{sumTo-more}
-use borrow.Author.Needs.{needs}
 use Rattle.products.proofs.strided.Statement.{statement}
 use Rattle.products.proofs.strided.Tie as tie
-use Rattle.products.proofs.strided.Reads as reads
-use Rattle.products.proofs.strided.Lts as lts
 
 abbrev Inv-loop : tie.InvT-loop
 Inv-loop a i di b j dj n s₀ p₀ q₀ k₀ s p q k =
@@ -38,44 +37,8 @@ turn c = c .before .before .before .before .before .pre (c .before .loop .k) (c 
 returns : tie.Need-returns Inv-loop μ-loop
 returns c = rw (c .if1 .taken)
 
-mul-s : tie.Need-mul-s Inv-loop μ-loop
-mul-s c = omega (arith, first c)
-
-shared-slice-read-s : tie.Need-shared-slice-read-s Inv-loop μ-loop
-shared-slice-read-s c = omega (arith, first (c .before))
-
-mul-s-2 : tie.Need-mul-s-2 Inv-loop μ-loop
-mul-s-2 c = omega (arith, first (c .before))
-
-shared-slice-read-s-2 : tie.Need-shared-slice-read-s-2 Inv-loop μ-loop
-shared-slice-read-s-2 c = omega (arith, first (c .before .before))
-
 loop-holds : tie.Need-loop-holds Inv-loop μ-loop
-loop-holds c = (search needs, omega arith, omega arith, omega arith, rw (zero-mul, add-zero, zero-mul, add-zero))
-
-add-p : tie.Need-add-p Inv-loop μ-loop
-add-p c = omega (arith, turn c)
-
-add-q : tie.Need-add-q Inv-loop μ-loop
-add-q c = omega (arith, turn c)
-
-mul-s-3 : tie.Need-mul-s-3 Inv-loop μ-loop
-mul-s-3 c = omega (arith, turn c)
-
-shared-slice-read-s-3 : tie.Need-shared-slice-read-s-3 Inv-loop μ-loop
-shared-slice-read-s-3 c = omega (arith, turn (c .before))
-
-mul-s-4 : tie.Need-mul-s-4 Inv-loop μ-loop
-mul-s-4 c = omega (arith, turn (c .before))
-
-shared-slice-read-s-4 : tie.Need-shared-slice-read-s-4 Inv-loop μ-loop
-shared-slice-read-s-4 c = omega (arith, turn (c .before .before))
-
-add-k : tie.Need-add-k Inv-loop μ-loop
-add-k c = search needs
-
-loop-less : tie.Need-loop-less Inv-loop μ-loop
-loop-less c = search needs
+loop-holds c = (search needs, omega arith, omega arith, omega arith, simp (zero-mul, add-zero))
 
 loop-again : tie.Need-loop-again Inv-loop μ-loop
 loop-again c =
@@ -95,18 +58,18 @@ strided-spec =
     Inv-loop
     μ-loop
     returns
-    mul-s
-    shared-slice-read-s
-    mul-s-2
-    shared-slice-read-s-2
+    (λ c. omega (arith, first c))
+    (λ c. omega (arith, first (c .before)))
+    (λ c. omega (arith, first (c .before)))
+    (λ c. omega (arith, first (c .before .before)))
     loop-holds
-    add-p
-    add-q
-    mul-s-3
-    shared-slice-read-s-3
-    mul-s-4
-    shared-slice-read-s-4
-    add-k
-    loop-less
+    (λ c. omega (arith, turn c))
+    (λ c. omega (arith, turn c))
+    (λ c. omega (arith, turn c))
+    (λ c. omega (arith, turn (c .before)))
+    (λ c. omega (arith, turn (c .before)))
+    (λ c. omega (arith, turn (c .before .before)))
+    (λ c. search needs)
+    (λ c. search needs)
     loop-again
     returns-2)

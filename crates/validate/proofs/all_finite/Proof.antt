@@ -1,39 +1,32 @@
--- `validate::all_finite` meets its contract: after k turns the rest of the list decides. Assumes nothing.
+-- `validate::all_finite` meets its contract: after k turns what is found so far and the rest of the list decide. Assumes nothing.
 use Prim.Native.Nat.{_≤_, _-_}
 use mathlib.Core.Path.{_≡_, sym, _∙_}
+use mathlib.Core.Bool.{_&&_}
 use native.Mathlib.Omega.{arith}
 use borrow.Author.Needs.{needs}
-use borrow.Author.Tests.{not-true, not-false}
 use lib.ListN.{length, drop}
-use lib.Seq.{drop-length}
 use Rattle.validate.specs.Finite.{allFinite}
-use Rattle.validate.proofs.Laws.{rest-bad, rest-good}
+use Rattle.validate.proofs.Laws.{tested-more, tested-all}
 use Rattle.validate.proofs.all_finite.Statement.{statement}
 use Rattle.validate.proofs.all_finite.Tie as tie
 
 abbrev Inv-loop : tie.InvT-loop
-Inv-loop list k₀ k = (k ≤ length list) × (allFinite (drop k list) ≡ allFinite list)
+Inv-loop list all₀ k₀ all k = (k ≤ length list) × (all && allFinite (drop k list) ≡ allFinite list)
 
 abbrev μ-loop : tie.MeasureT-loop
-μ-loop list k₀ k = length list - k
-
-returns : tie.Need-returns Inv-loop μ-loop
-returns c =
-    let c1 = c .before .before .before in
-    let bad = sym (c .before .is-finite .ensures) ∙ not-true _ (c .if1 .taken) in
-    sym (rest-bad _ _ (c1 .loop-test .taken) bad) ∙ c1 .before .loop .inv .1
+μ-loop list all₀ k₀ all k = length list - k
 
 loop-again : tie.Need-loop-again Inv-loop μ-loop
 loop-again c =
     let c1 = c .before .before .before in
-    let good = sym (c .before .is-finite .ensures) ∙ not-false _ (c .if1 .left) in
-    (search needs, sym (rest-good _ _ (c1 .loop-test .taken) good) ∙ c1 .before .loop .inv .1)
+    (search needs, rw (c .both .ensures, c .before .is-finite .ensures) (sym (tested-more (c1 .before .loop .all) _ _ (c1 .loop-test .taken)) ∙ c1 .before .loop .inv .1))
 
-returns-2 : tie.Need-returns-2 Inv-loop μ-loop
-unfolding allFinite
-returns-2 c =
-    let e : c .before .loop .k ≡ length (c .before .before .before .args .list .now) = omega arith in
-    rw (← c .before .loop .inv .1, e, drop-length)
+returns : tie.Need-returns Inv-loop μ-loop
+returns c =
+    let at = c .before .loop in
+    let list = c .before .before .before .args .list .now in
+    let e : at .k ≡ length list = omega arith in
+    rw (e, tested-all (at .all) list) at (at .inv .1)
 
 pub all-finite-spec : {M : Type 1} → statement M
 all-finite-spec =
@@ -45,8 +38,8 @@ all-finite-spec =
     (λ c. search needs)
     (λ c. search needs)
     (λ c κs. tt)
-    returns
+    (λ c κs. tt)
     (λ c. search needs)
     (λ c. search needs)
     loop-again
-    returns-2)
+    returns)

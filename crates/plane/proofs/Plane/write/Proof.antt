@@ -1,4 +1,4 @@
--- `plane::Plane::write` meets its contract. Assumes nothing.
+-- `plane::Plane::write` meets its contract: the plane as a list, stored. Assumes nothing.
 use borrow.Author.Needs.{needs}
 use Rattle.plane.proofs.Plane.write.Statement.{statement}
 use Rattle.plane.proofs.Plane.write.Tie as tie
