@@ -3,6 +3,7 @@
 //! The two take turns in short batches, so that whatever else slows the machine slows both alike, and the ratio is the
 //! median of the rounds' own ratios.
 
+use std::hint::black_box;
 use std::time::{Duration, Instant};
 
 /// Rounds that are timed, each with a batch of either side.
@@ -50,6 +51,72 @@ pub fn measure(
         nanoseconds(median(rounds.iter().map(|round| round.1))),
         median(rounds.iter().map(|round| round.0 / round.1)),
     );
+}
+
+/// Times two functions that write `N` numbers for an input, on each of the inputs, having seen that they write the same.
+pub fn measure_written<Input, const N: usize>(
+    function: &str,
+    case: &str,
+    inputs: &[Input],
+    library: impl Fn(&Input, &mut [f64; N]),
+    rust: impl Fn(&Input, &mut [f64; N]),
+) {
+    for input in inputs {
+        let (mut by_library, mut by_rust) = ([0.0; N], [0.0; N]);
+        library(input, &mut by_library);
+        rust(input, &mut by_rust);
+        assert_eq!(by_library, by_rust);
+    }
+    measure(
+        function,
+        case,
+        inputs.len(),
+        || write_all(inputs, &library),
+        || write_all(inputs, &rust),
+    );
+}
+
+#[inline(always)]
+fn write_all<Input, const N: usize>(inputs: &[Input], write: impl Fn(&Input, &mut [f64; N])) {
+    let mut written = [0.0; N];
+    for input in black_box(inputs) {
+        write(input, &mut written);
+        black_box(&mut written);
+    }
+}
+
+/// Times two functions that update a record by an input, on each pair of the two, having seen that they do the same.
+/// Each turn goes on from what the last one left.
+pub fn measure_updated<Input: Clone, const N: usize>(
+    function: &str,
+    case: &str,
+    pairs: &[([f64; N], Input)],
+    library: impl Fn(&mut [f64; N], &Input),
+    rust: impl Fn(&mut [f64; N], &Input),
+) {
+    let (mut by_library, mut by_rust) = (pairs.to_vec(), pairs.to_vec());
+    update_all(&mut by_library, &library);
+    update_all(&mut by_rust, &rust);
+    for (library, rust) in by_library.iter().zip(&by_rust) {
+        assert_eq!(library.0, rust.0);
+    }
+    measure(
+        function,
+        case,
+        pairs.len(),
+        || update_all(&mut by_library, &library),
+        || update_all(&mut by_rust, &rust),
+    );
+}
+
+#[inline(always)]
+fn update_all<Input, const N: usize>(
+    pairs: &mut [([f64; N], Input)],
+    update: impl Fn(&mut [f64; N], &Input),
+) {
+    for (record, input) in black_box(pairs) {
+        update(record, input);
+    }
 }
 
 /// How often `work` is repeated until it takes as long as a batch.

@@ -4,6 +4,9 @@
 #include <math.h>
 #include <stdio.h>
 
+/* A slice is a pointer and then a length in elements. */
+#define SLICE(array) (array), sizeof(array) / sizeof((array)[0])
+
 static int failures = 0;
 
 static void expect(int holds, const char *what) {
@@ -13,7 +16,7 @@ static void expect(int holds, const char *what) {
     }
 }
 
-int main(void) {
+static void leaves(void) {
     expect(maghnelt_sqrt(4.0) == 2.0, "the root of 4 is 2");
     expect(signbit(maghnelt_sqrt(-0.0)) != 0, "the root of -0 is -0");
     expect(isnan(maghnelt_sqrt(-1.0)), "the root of -1 is a NaN");
@@ -21,6 +24,85 @@ int main(void) {
     expect(maghnelt_total_order_key(0) == 0, "the key of +0 is 0");
     expect(maghnelt_total_order_key(UINT64_C(0x8000000000000000)) == -1, "the key of -0 is -1");
     expect(maghnelt_total_order_key(UINT64_C(0xffffffffffffffff)) == INT64_MIN, "the least key is a negative NaN's");
+}
 
+/* The corners of a square on the floor, then lifted by five metres, a point and another square added. */
+static void moments(void) {
+    const double corners[] = {0, 0, 0, 2, 0, 0, 0, 2, 0, 2, 2, 0};
+    const double upright[] = {1, 0, 0, 0, 1, 0, 0, 0, 1};
+    const double up[] = {0, 0, 5};
+    const double decomposition[MAGHNELT_DECOMPOSITION] = {1, 1, 0, 1, 0, 0, 0, 1, 0, 0, 0, 1};
+    double floor_set[MAGHNELT_MOMENTS];
+    double lifted[MAGHNELT_MOMENTS];
+    double mean_and_scatter[12];
+    double plane[7];
+    uint32_t found = 2;
+
+    expect(maghnelt_moments_from_points(SLICE(corners), SLICE(floor_set)) == 0, "points are accepted");
+    expect(floor_set[0] == 4 && floor_set[1] == 4 && floor_set[2] == 4 && floor_set[3] == 0, "count and sum of corners");
+    expect(floor_set[4] == 8 && floor_set[5] == 4 && floor_set[8] == 8, "outer products of corners");
+
+    expect(maghnelt_moments_transformed(SLICE(floor_set), SLICE(upright), SLICE(up), SLICE(lifted)) == 0, "a move is accepted");
+    expect(lifted[3] == 20 && lifted[6] == 20 && lifted[12] == 100, "corners that are lifted by five");
+
+    expect(maghnelt_moments_mean_and_scatter(SLICE(lifted), SLICE(mean_and_scatter), &found) == 0 && found == 1,
+           "points have a mean");
+    expect(mean_and_scatter[0] == 1 && mean_and_scatter[2] == 5, "mean of lifted corners");
+    expect(mean_and_scatter[3] == 1 && mean_and_scatter[4] == 0 && mean_and_scatter[11] == 0, "scatter of lifted corners");
+
+    found = 2;
+    expect(maghnelt_moments_plane(SLICE(lifted), SLICE(decomposition), SLICE(plane), &found) == 0 && found == 1,
+           "corners have a plane");
+    expect(plane[2] == 1 && plane[3] == -5 && plane[4] == 0 && plane[5] == 1, "plane of lifted corners");
+
+    expect(maghnelt_moments_push(SLICE(lifted), SLICE(up)) == 0, "a point is accepted");
+    expect(lifted[0] == 5 && lifted[3] == 25 && lifted[12] == 125, "a point is added");
+    expect(maghnelt_moments_merge(SLICE(lifted), SLICE(floor_set)) == 0, "a set is accepted");
+    expect(lifted[0] == 9 && lifted[1] == 8 && lifted[3] == 25, "a set is added");
+}
+
+static void no_answer(void) {
+    const double no_points[MAGHNELT_MOMENTS] = {0};
+    const double point[] = {1, 2, 3};
+    double out[12] = {7};
+    double record[MAGHNELT_MOMENTS] = {7};
+    uint32_t found = 2;
+
+    expect(maghnelt_moments_mean_and_scatter(SLICE(no_points), SLICE(out), &found) == 0 && found == 0 && out[0] == 7,
+           "no points have no mean, and the output is left");
+    expect(maghnelt_moments_push(record, MAGHNELT_MOMENTS - 1, SLICE(point)) == 3 && record[0] == 7,
+           "a short record is refused and left");
+}
+
+static void planes(void) {
+    const double normal[] = {0, 3, 4};
+    const double zero[] = {0, 0, 0};
+    const double upright[] = {1, 0, 0, 0, 1, 0, 0, 0, 1};
+    const double plane_covariance[36] = {0};
+    const double point_covariance[] = {1, 0, 0, 0, 4, 0, 0, 0, 4};
+    double plane[MAGHNELT_PLANE];
+    double sigma = 7;
+
+    expect(maghnelt_plane_new(SLICE(normal), 10.0, SLICE(plane)) == 0, "a normal is accepted");
+    expect(plane[0] == 0 && plane[1] == 0.6 && plane[2] == 0.8 && plane[3] == 2, "normal and offset are divided");
+    expect(maghnelt_plane_new(SLICE(zero), 1.0, SLICE(plane)) == 11 && plane[3] == 2, "no normal is refused");
+
+    plane[1] = 0;
+    plane[2] = 1;
+    expect(maghnelt_point_to_plane_sigma(SLICE(plane), SLICE(zero), SLICE(plane_covariance), SLICE(point_covariance),
+                                         SLICE(zero), SLICE(upright), &sigma) == 0 && sigma == 2,
+           "the deviation along the normal");
+    sigma = 7;
+    plane[2] = 0;
+    expect(maghnelt_point_to_plane_sigma(SLICE(plane), SLICE(zero), SLICE(plane_covariance), SLICE(point_covariance),
+                                         SLICE(zero), SLICE(upright), &sigma) == 12 && sigma == 7,
+           "a variance of 0 is refused");
+}
+
+int main(void) {
+    leaves();
+    moments();
+    no_answer();
+    planes();
     return failures != 0;
 }

@@ -2,8 +2,11 @@
 
 #![warn(missing_docs)]
 
+pub mod draws;
 pub mod generator;
 pub mod groups;
+pub mod lent;
+pub mod model;
 pub mod patterns;
 pub mod probe;
 pub mod report;

@@ -1,7 +1,9 @@
 //! Compares the proved library with plain Rust, group by group, and exits non-zero where they differ.
 
 use oracle::generator::Generator;
-use oracle::groups::{number, order, root_steps, sqrt};
+use oracle::groups::{
+    moments, moments_plane, number, order, plane_new, root_steps, scatter, sigma, sqrt,
+};
 use oracle::report::Report;
 use std::process::ExitCode;
 
@@ -31,6 +33,31 @@ const GROUPS: &[Group] = &[
         name: "root_steps",
         about: "correction steps of the square root: at most one each way",
         run: root_steps::run,
+    },
+    Group {
+        name: "moments",
+        about: "moments from points, pushed, merged and moved, against a model",
+        run: moments::run,
+    },
+    Group {
+        name: "scatter",
+        about: "mean and scatter of moments against a model",
+        run: scatter::run,
+    },
+    Group {
+        name: "moments_plane",
+        about: "the plane of moments against a model",
+        run: moments_plane::run,
+    },
+    Group {
+        name: "plane_new",
+        about: "planes of a normal and an offset against a model",
+        run: plane_new::run,
+    },
+    Group {
+        name: "sigma",
+        about: "the deviation of a point from a plane against a model",
+        run: sigma::run,
     },
 ];
 
@@ -109,7 +136,7 @@ fn usage() -> String {
          Exit status: 0 no mismatch, 1 a mismatch, 2 bad usage.\n\ngroups:"
     );
     for group in GROUPS {
-        text.push_str(&format!("\n  {:10} {}", group.name, group.about));
+        text.push_str(&format!("\n  {:13} {}", group.name, group.about));
     }
     text
 }

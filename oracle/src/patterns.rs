@@ -103,7 +103,7 @@ pub fn random_subnormal(generator: &mut Generator) -> u64 {
 }
 
 /// A NaN with a plus sign, quiet or signalling; all lengths of its payload are equally frequent.
-fn random_nan(generator: &mut Generator) -> u64 {
+pub fn random_nan(generator: &mut Generator) -> u64 {
     let width = 1 + generator.below(51) as u32;
     let quiet = generator.bits() & QUIET;
     INFINITY | quiet | generator.of_width(width)

@@ -3,7 +3,15 @@
 fn main() {
     println!("Square roots, correctly rounded:");
     println!("  {:>24}  {:>24}  bits of the root", "x", "root");
-    for x in [4.0, 2.0, 1e300, f64::from_bits(1), -0.0, -1.0, f64::INFINITY] {
+    for x in [
+        4.0,
+        2.0,
+        1e300,
+        f64::from_bits(1),
+        -0.0,
+        -1.0,
+        f64::INFINITY,
+    ] {
         let root = maghnelt::sqrt(x);
         println!("  {x:>24e}  {root:>24e}  {:016X}", root.to_bits());
     }
@@ -14,6 +22,9 @@ fn main() {
         let mut order = [0, 1, 2];
         order.sort_by_key(|&k: &usize| maghnelt::total_order_key(eigenvalues[k].to_bits()));
         let sorted = order.map(|k| eigenvalues[k]);
-        println!("  {eigenvalues:?}  ->  {sorted:?}, the axis of least scatter is vector {}", order[0]);
+        println!(
+            "  {eigenvalues:?}  ->  {sorted:?}, the axis of least scatter is vector {}",
+            order[0]
+        );
     }
 }

@@ -1,6 +1,75 @@
 //! The functions of `libmaghnelt.a`, as `include/maghnelt.h` declares them; the modules beside this one make them safe.
+//! A slice is a pointer and then a length in elements.
 
 extern "C" {
     pub(crate) fn maghnelt_sqrt(x: f64) -> f64;
     pub(crate) fn maghnelt_total_order_key(bits: u64) -> i64;
+
+    pub(crate) fn maghnelt_moments_from_points(
+        points: *const f64,
+        points_length: usize,
+        moments: *mut f64,
+        moments_length: usize,
+    ) -> u32;
+    pub(crate) fn maghnelt_moments_push(
+        moments: *mut f64,
+        moments_length: usize,
+        point: *const f64,
+        point_length: usize,
+    ) -> u32;
+    pub(crate) fn maghnelt_moments_merge(
+        moments: *mut f64,
+        moments_length: usize,
+        other: *const f64,
+        other_length: usize,
+    ) -> u32;
+    pub(crate) fn maghnelt_moments_transformed(
+        moments: *const f64,
+        moments_length: usize,
+        a: *const f64,
+        a_length: usize,
+        b: *const f64,
+        b_length: usize,
+        out: *mut f64,
+        out_length: usize,
+    ) -> u32;
+    pub(crate) fn maghnelt_moments_mean_and_scatter(
+        moments: *const f64,
+        moments_length: usize,
+        out: *mut f64,
+        out_length: usize,
+        found: *mut u32,
+    ) -> u32;
+    pub(crate) fn maghnelt_moments_plane(
+        moments: *const f64,
+        moments_length: usize,
+        decomposition: *const f64,
+        decomposition_length: usize,
+        out: *mut f64,
+        out_length: usize,
+        found: *mut u32,
+    ) -> u32;
+
+    pub(crate) fn maghnelt_plane_new(
+        normal: *const f64,
+        normal_length: usize,
+        offset: f64,
+        plane: *mut f64,
+        plane_length: usize,
+    ) -> u32;
+    pub(crate) fn maghnelt_point_to_plane_sigma(
+        plane: *const f64,
+        plane_length: usize,
+        centroid: *const f64,
+        centroid_length: usize,
+        plane_covariance: *const f64,
+        plane_covariance_length: usize,
+        point_covariance: *const f64,
+        point_covariance_length: usize,
+        world: *const f64,
+        world_length: usize,
+        d_world_d_point: *const f64,
+        d_world_d_point_length: usize,
+        sigma: *mut f64,
+    ) -> u32;
 }

@@ -6,8 +6,25 @@
 //!
 //! | function | answer |
 //! |---|---|
+//! | [`Moments::from_points`], [`push`](Moments::push), [`merge`](Moments::merge) | count, sum and summed outer products of points |
+//! | [`Moments::transformed`] | the moments of the points moved by an affine map |
+//! | [`Moments::mean_and_scatter`], [`Moments::plane`] | mean and scatter of the points, and the plane that fits them |
+//! | [`Plane::new`] | a plane with a unit normal |
+//! | [`point_to_plane_sigma`] | the standard deviation of a point's distance from a plane |
 //! | [`sqrt`] | the correctly rounded square root, IEEE 754's squareRoot |
 //! | [`total_order_key`] | an integer that orders bit patterns as IEEE 754's totalOrder |
+//!
+//! The same calls on slices, as C makes them, are in [`slices`].
+//!
+//! # Matrices
+//!
+//! A matrix is an array of its columns: the entry of row r and column c of `m` is `m[c][r]`. nalgebra's matrices turn into
+//! such arrays, and back, by `into()`.
+//!
+//! # Refusals
+//!
+//! A call that can't be answered is refused by a numbered reason, a [`Refusal`], and has then written nothing. Where there
+//! is simply no answer, as for the mean of no points, it is `None`.
 //!
 //! # Linking
 //!
@@ -17,13 +34,22 @@
 //! # NaN
 //!
 //! A NaN that is returned may have any sign and payload. A NaN's own sign and payload matter only where
-//! a function takes bit patterns (`u64`).
+//! a function takes bit patterns (`u64`), and for the eigenvalues of a [`Decomposition`].
 
 #![warn(missing_docs)]
 
 mod ffi;
+mod moments;
+mod plane;
+mod refusal;
+mod sizes;
+pub mod slices;
 mod square_root;
 mod total_order;
 
+pub use moments::{Decomposition, FittedPlane, MeanAndScatter, Moments};
+pub use plane::{point_to_plane_sigma, Plane};
+pub use refusal::Refusal;
+pub use sizes::{ACTION, CENTRED, DECOMPOSITION, MATCH, MAX_POINTS, MOMENTS, PLANE};
 pub use square_root::sqrt;
 pub use total_order::total_order_key;

@@ -1,0 +1,17 @@
+//! How many numbers a record has, as `include/maghnelt.h` names them. Code that uses the names survives a change of them.
+
+/// The numbers of a set of moments: count, sum (3), outer products (9, column after column).
+pub const MOMENTS: usize = 13;
+/// The numbers of a centred frame: count, mean (3), scatter times count (9, column after column).
+pub const CENTRED: usize = 13;
+/// The numbers of an action: matrix A (9), shift b (3), origin (3 by 9), axes (three of 3 by 9).
+pub const ACTION: usize = 120;
+/// The numbers of a decomposition: three eigenvalues, then their three vectors.
+pub const DECOMPOSITION: usize = 12;
+/// The numbers of a match: point (3), normal (3), offset, sigma.
+pub const MATCH: usize = 8;
+/// The numbers of a plane: normal (3), offset.
+pub const PLANE: usize = 4;
+
+/// The most points that one call takes.
+pub const MAX_POINTS: usize = 65_536;

@@ -1,0 +1,202 @@
+//! The calls as C makes them, on slices of any length: for lists whose lengths are known only when the program runs.
+//! [`Moments`](crate::Moments), [`Plane`](crate::Plane) and [`point_to_plane_sigma`](crate::point_to_plane_sigma) stand
+//! above these functions, and their types give every slice the length that it must have.
+//!
+//! A call that is refused has written nothing, neither to a slice nor to a single number. Matrices are handed over column
+//! after column. Where a call may find nothing, `found` becomes 1 or 0, and with 0 the output is left as it was.
+
+// Each `unsafe` block below is sound for one reason. Every slice goes over as its own pointer and length, so that the
+// pointer is non-null and aligned and that many numbers are there; a slice or number that is written is borrowed for
+// that alone, so that it overlaps no other argument. The functions are proved to end for every argument and to
+// write nothing else.
+
+use crate::ffi;
+use crate::Refusal;
+
+/// Writes the moments of `points`, three numbers a point, to `moments`.
+///
+/// # Errors
+///
+/// [`Refusal::LENGTH`]: `points` is not whole points or more than [`MAX_POINTS`](crate::MAX_POINTS), or `moments` has not
+/// [`MOMENTS`](crate::MOMENTS) numbers.
+#[inline]
+pub fn moments_from_points(points: &[f64], moments: &mut [f64]) -> Result<(), Refusal> {
+    // SAFETY: as said at the head of this file.
+    Refusal::of_answer(unsafe {
+        ffi::maghnelt_moments_from_points(
+            points.as_ptr(),
+            points.len(),
+            moments.as_mut_ptr(),
+            moments.len(),
+        )
+    })
+}
+
+/// Adds one point, three numbers, to `moments`.
+///
+/// # Errors
+///
+/// [`Refusal::LENGTH`]: `moments` has not [`MOMENTS`](crate::MOMENTS) numbers, or `point` not 3.
+#[inline]
+pub fn moments_push(moments: &mut [f64], point: &[f64]) -> Result<(), Refusal> {
+    // SAFETY: as said at the head of this file.
+    Refusal::of_answer(unsafe {
+        ffi::maghnelt_moments_push(
+            moments.as_mut_ptr(),
+            moments.len(),
+            point.as_ptr(),
+            point.len(),
+        )
+    })
+}
+
+/// Adds the moments `other` to `moments`.
+///
+/// # Errors
+///
+/// [`Refusal::LENGTH`]: one of the two has not [`MOMENTS`](crate::MOMENTS) numbers.
+#[inline]
+pub fn moments_merge(moments: &mut [f64], other: &[f64]) -> Result<(), Refusal> {
+    // SAFETY: as said at the head of this file.
+    Refusal::of_answer(unsafe {
+        ffi::maghnelt_moments_merge(
+            moments.as_mut_ptr(),
+            moments.len(),
+            other.as_ptr(),
+            other.len(),
+        )
+    })
+}
+
+/// Writes to `out` the moments of the points moved by `p ↦ a·p + b`, `a` being nine numbers and `b` three.
+///
+/// # Errors
+///
+/// [`Refusal::LENGTH`]: `moments` or `out` has not [`MOMENTS`](crate::MOMENTS) numbers, `a` not 9 or `b` not 3.
+#[inline]
+pub fn moments_transformed(
+    moments: &[f64],
+    a: &[f64],
+    b: &[f64],
+    out: &mut [f64],
+) -> Result<(), Refusal> {
+    // SAFETY: as said at the head of this file.
+    Refusal::of_answer(unsafe {
+        ffi::maghnelt_moments_transformed(
+            moments.as_ptr(),
+            moments.len(),
+            a.as_ptr(),
+            a.len(),
+            b.as_ptr(),
+            b.len(),
+            out.as_mut_ptr(),
+            out.len(),
+        )
+    })
+}
+
+/// Writes mean (3) and scatter (9) to `out`; nothing is found where the count is at or below 0.
+///
+/// # Errors
+///
+/// [`Refusal::LENGTH`]: `moments` has not [`MOMENTS`](crate::MOMENTS) numbers, or `out` not 12.
+#[inline]
+pub fn moments_mean_and_scatter(
+    moments: &[f64],
+    out: &mut [f64],
+    found: &mut u32,
+) -> Result<(), Refusal> {
+    // SAFETY: as said at the head of this file.
+    Refusal::of_answer(unsafe {
+        ffi::maghnelt_moments_mean_and_scatter(
+            moments.as_ptr(),
+            moments.len(),
+            out.as_mut_ptr(),
+            out.len(),
+            found,
+        )
+    })
+}
+
+/// Writes normal (3), offset and the rising eigenvalues (3) of the fitted plane to `out`, given the decomposition of the
+/// scatter; nothing is found with fewer than three points or without one axis of least scatter.
+///
+/// # Errors
+///
+/// [`Refusal::LENGTH`]: `moments` has not [`MOMENTS`](crate::MOMENTS) numbers, `decomposition` not
+/// [`DECOMPOSITION`](crate::DECOMPOSITION) or `out` not 7.
+#[inline]
+pub fn moments_plane(
+    moments: &[f64],
+    decomposition: &[f64],
+    out: &mut [f64],
+    found: &mut u32,
+) -> Result<(), Refusal> {
+    // SAFETY: as said at the head of this file.
+    Refusal::of_answer(unsafe {
+        ffi::maghnelt_moments_plane(
+            moments.as_ptr(),
+            moments.len(),
+            decomposition.as_ptr(),
+            decomposition.len(),
+            out.as_mut_ptr(),
+            out.len(),
+            found,
+        )
+    })
+}
+
+/// Writes the unit normal and the offset of the plane `normal·x + offset = 0` to `plane`.
+///
+/// # Errors
+///
+/// [`Refusal::LENGTH`]: `normal` has not 3 numbers, or `plane` not [`PLANE`](crate::PLANE); then [`Refusal::NORMAL`].
+#[inline]
+pub fn plane_new(normal: &[f64], offset: f64, plane: &mut [f64]) -> Result<(), Refusal> {
+    // SAFETY: as said at the head of this file.
+    Refusal::of_answer(unsafe {
+        ffi::maghnelt_plane_new(
+            normal.as_ptr(),
+            normal.len(),
+            offset,
+            plane.as_mut_ptr(),
+            plane.len(),
+        )
+    })
+}
+
+/// Writes the standard deviation of a point-to-plane residual to `sigma`.
+///
+/// # Errors
+///
+/// [`Refusal::LENGTH`]: `plane` has not [`PLANE`](crate::PLANE) numbers, `centroid` or `world` not 3, `plane_covariance`
+/// not 36, `point_covariance` or `d_world_d_point` not 9; then [`Refusal::VARIANCE`].
+#[inline]
+pub fn point_to_plane_sigma(
+    plane: &[f64],
+    centroid: &[f64],
+    plane_covariance: &[f64],
+    point_covariance: &[f64],
+    world: &[f64],
+    d_world_d_point: &[f64],
+    sigma: &mut f64,
+) -> Result<(), Refusal> {
+    // SAFETY: as said at the head of this file.
+    Refusal::of_answer(unsafe {
+        ffi::maghnelt_point_to_plane_sigma(
+            plane.as_ptr(),
+            plane.len(),
+            centroid.as_ptr(),
+            centroid.len(),
+            plane_covariance.as_ptr(),
+            plane_covariance.len(),
+            point_covariance.as_ptr(),
+            point_covariance.len(),
+            world.as_ptr(),
+            world.len(),
+            d_world_d_point.as_ptr(),
+            d_world_d_point.len(),
+            sigma,
+        )
+    })
+}

@@ -1,0 +1,44 @@
+//! The reasons: their numbers and what is printed.
+
+use maghnelt::{Moments, Refusal, MAX_POINTS};
+use std::error::Error;
+
+/// Every reason, in the order of the numbers, with a word of its text.
+const REASONS: [(Refusal, &str); 12] = [
+    (Refusal::DOF, "dof"),
+    (Refusal::EMPTY_LIST, "empty"),
+    (Refusal::LENGTH, "length"),
+    (Refusal::FRAME_COUNT, "at or below 0"),
+    (Refusal::TOTAL_COUNT, "below 3"),
+    (Refusal::NOT_FINITE, "not finite"),
+    (Refusal::SIGMA, "sigma"),
+    (Refusal::ACTIONS, "120"),
+    (Refusal::MAP_WORD, "map word"),
+    (Refusal::SEGMENT, "Hessian"),
+    (Refusal::NORMAL, "1e-12"),
+    (Refusal::VARIANCE, "variance"),
+];
+
+#[test]
+fn reasons_are_numbered_from_1_on() {
+    let numbers = REASONS.map(|(refusal, _)| refusal.number());
+    assert_eq!(numbers, [1, 2, 3, 4, 5, 6, 7, 8, 9, 10, 11, 12]);
+}
+
+#[test]
+fn number_and_text_are_printed() {
+    for (refusal, word) in REASONS {
+        let printed = refusal.to_string();
+        assert!(printed.starts_with(&format!("reason {}: ", refusal.number())));
+        assert!(printed.contains(word), "{printed}");
+    }
+}
+
+#[test]
+fn a_caller_may_hand_a_refusal_on_with_any_other_error() {
+    fn too_many() -> Result<Moments, Box<dyn Error>> {
+        Ok(Moments::from_points(&vec![[0.0; 3]; MAX_POINTS + 1])?)
+    }
+    let error = too_many().unwrap_err();
+    assert_eq!(error.downcast_ref::<Refusal>(), Some(&Refusal::LENGTH));
+}

@@ -1,0 +1,30 @@
+//! The names of the sizes stand for the same numbers as the header's.
+
+const HEADER: &str = include_str!("../../../include/maghnelt.h");
+
+/// The header's lines `#define MAGHNELT_NAME number`.
+fn defined() -> Vec<(&'static str, usize)> {
+    HEADER
+        .lines()
+        .filter_map(|line| {
+            let mut words = line.strip_prefix("#define MAGHNELT_")?.split_whitespace();
+            let name = words.next()?;
+            Some((name, words.next()?.parse().ok()?))
+        })
+        .collect()
+}
+
+#[test]
+fn sizes_are_those_of_the_header() {
+    assert_eq!(
+        defined(),
+        [
+            ("MOMENTS", maghnelt::MOMENTS),
+            ("CENTRED", maghnelt::CENTRED),
+            ("ACTION", maghnelt::ACTION),
+            ("DECOMPOSITION", maghnelt::DECOMPOSITION),
+            ("MATCH", maghnelt::MATCH),
+            ("PLANE", maghnelt::PLANE),
+        ]
+    );
+}

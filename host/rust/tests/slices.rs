@@ -1,0 +1,162 @@
+//! Slices of wrong lengths are refused, and everything that was lent is as it was, bit for bit.
+
+use maghnelt::{slices, Refusal, DECOMPOSITION, MAX_POINTS, MOMENTS, PLANE};
+
+/// Signalling and quiet NaNs with payloads, and numbers: what a write would hardly leave in place.
+fn patterns(length: usize) -> Vec<f64> {
+    const BITS: [u64; 5] = [
+        0x7FF0_0000_0000_0D1E,
+        0xFFF8_0000_0000_0B0B,
+        0x8000_0000_0000_0000,
+        0x0000_0000_0000_0001,
+        0x4059_0000_0000_0000,
+    ];
+    (0..length)
+        .map(|place| f64::from_bits(BITS[place % BITS.len()]))
+        .collect()
+}
+
+fn bits(numbers: &[f64]) -> Vec<u64> {
+    numbers.iter().map(|x| x.to_bits()).collect()
+}
+
+/// Lengths in which one or more of the slices are empty, one short or one long.
+fn wrong<const N: usize>(right: [usize; N]) -> Vec<[usize; N]> {
+    let mut all = vec![[0; N]];
+    for slice in 0..N {
+        all = all
+            .into_iter()
+            .flat_map(|lengths| {
+                [0, right[slice] - 1, right[slice], right[slice] + 1].map(|length| {
+                    let mut lengths: [usize; N] = lengths;
+                    lengths[slice] = length;
+                    lengths
+                })
+            })
+            .collect();
+    }
+    all.retain(|lengths| *lengths != right);
+    all
+}
+
+/// Lends an output of that length and sees that the call refuses it and leaves it.
+fn refused(length: usize, call: impl FnOnce(&mut [f64]) -> Result<(), Refusal>) {
+    let mut out = patterns(length);
+    assert_eq!(call(&mut out), Err(Refusal::LENGTH));
+    assert_eq!(bits(&out), bits(&patterns(length)));
+}
+
+#[test]
+fn from_points() {
+    let points = vec![1.0; 3 * MAX_POINTS + 3];
+    let most = 3 * MAX_POINTS;
+    for length in [1, 2, 4, 5, most - 1, most + 1, most + 2, most + 3] {
+        refused(MOMENTS, |out| {
+            slices::moments_from_points(&points[..length], out)
+        });
+    }
+    for length in [0, MOMENTS - 1, MOMENTS + 1] {
+        refused(length, |out| slices::moments_from_points(&points[..3], out));
+    }
+    let mut out = patterns(MOMENTS);
+    assert_eq!(slices::moments_from_points(&[], &mut out), Ok(()));
+    assert_eq!(bits(&out), [0; MOMENTS]);
+}
+
+#[test]
+fn push_and_merge() {
+    for [moments, point] in wrong([MOMENTS, 3]) {
+        refused(moments, |out| slices::moments_push(out, &patterns(point)));
+    }
+    for [moments, other] in wrong([MOMENTS, MOMENTS]) {
+        refused(moments, |out| slices::moments_merge(out, &patterns(other)));
+    }
+}
+
+#[test]
+fn transformed() {
+    for [moments, a, b, out] in wrong([MOMENTS, 9, 3, MOMENTS]) {
+        refused(out, |out| {
+            slices::moments_transformed(&patterns(moments), &patterns(a), &patterns(b), out)
+        });
+    }
+}
+
+#[test]
+fn mean_and_scatter() {
+    let mut found = 77;
+    for [moments, out] in wrong([MOMENTS, 12]) {
+        refused(out, |out| {
+            slices::moments_mean_and_scatter(&vec![1.0; moments], out, &mut found)
+        });
+    }
+    assert_eq!(found, 77);
+}
+
+#[test]
+fn plane_of_moments() {
+    let mut found = 77;
+    for [moments, decomposition, out] in wrong([MOMENTS, DECOMPOSITION, 7]) {
+        refused(out, |out| {
+            let decomposition: Vec<f64> = (0..decomposition).map(|k| k as f64).collect();
+            slices::moments_plane(&vec![4.0; moments], &decomposition, out, &mut found)
+        });
+    }
+    assert_eq!(found, 77);
+}
+
+#[test]
+fn where_nothing_is_found_the_output_is_left() {
+    let before = patterns(12);
+    let mut out = before.clone();
+    let mut found = 77;
+    assert_eq!(
+        slices::moments_mean_and_scatter(&[0.0; MOMENTS], &mut out, &mut found),
+        Ok(())
+    );
+    assert_eq!((found, bits(&out)), (0, bits(&before)));
+
+    let mut found = 77;
+    let equal = [1.0; DECOMPOSITION];
+    assert_eq!(
+        slices::moments_plane(&[4.0; MOMENTS], &equal, &mut out[..7], &mut found),
+        Ok(())
+    );
+    assert_eq!((found, bits(&out)), (0, bits(&before)));
+}
+
+#[test]
+fn plane_new() {
+    for [normal, plane] in wrong([3, PLANE]) {
+        refused(plane, |out| slices::plane_new(&vec![1.0; normal], 1.0, out));
+    }
+    // The lengths are tested before the normal, and a bad normal leaves the plane too.
+    refused(PLANE + 1, |out| slices::plane_new(&[0.0; 3], 1.0, out));
+    let mut out = patterns(PLANE);
+    assert_eq!(
+        slices::plane_new(&[0.0; 3], 1.0, &mut out),
+        Err(Refusal::NORMAL)
+    );
+    assert_eq!(bits(&out), bits(&patterns(PLANE)));
+}
+
+#[test]
+fn sigma() {
+    let before = f64::from_bits(0x7FF0_0000_0000_0D1E);
+    let mut sigma = before;
+    let mut answer = |lengths: [usize; 6], filled: f64| {
+        let [plane, centroid, of_plane, of_point, world, d_world] =
+            lengths.map(|length| vec![filled; length]);
+        slices::point_to_plane_sigma(
+            &plane, &centroid, &of_plane, &of_point, &world, &d_world, &mut sigma,
+        )
+    };
+    let right = [PLANE, 3, 36, 9, 3, 9];
+    for lengths in wrong(right) {
+        // With ones it would be accepted, with zeros refused by the variance, but for the lengths.
+        assert_eq!(answer(lengths, 1.0), Err(Refusal::LENGTH), "{lengths:?}");
+        assert_eq!(answer(lengths, 0.0), Err(Refusal::LENGTH), "{lengths:?}");
+    }
+    assert_eq!(answer(right, 0.0), Err(Refusal::VARIANCE));
+    assert_eq!(sigma.to_bits(), before.to_bits());
+}

@@ -1,0 +1,88 @@
+//! A model of the library in plain Rust, written from document 01 rule by rule: it is there to be read beside the paper,
+//! not to be fast, and is not the solver's own Rust.
+//!
+//! A matrix is read as `m[row][column]`; where it is stored, its columns follow each other.
+
+pub mod moments;
+pub mod plane;
+
+/// The reason for a slice of a wrong length.
+pub const LENGTH: u32 = 3;
+/// The reason for a normal without a usable length.
+pub const NORMAL: u32 = 11;
+/// The reason for a variance that is not finite and positive.
+pub const VARIANCE: u32 = 12;
+
+/// Three numbers.
+pub type Vector = [f64; 3];
+/// A matrix of `N` rows and columns.
+pub type Matrix<const N: usize> = [[f64; N]; N];
+
+/// A sum in rising index that starts from its first term; +0 where there is none.
+pub fn sum(terms: impl Iterator<Item = f64>) -> f64 {
+    terms.reduce(|sum, term| sum + term).unwrap_or(0.0)
+}
+
+/// The sum of products of two lists of numbers.
+pub fn dot<const N: usize>(a: [f64; N], b: [f64; N]) -> f64 {
+    sum((0..N).map(|k| a[k] * b[k]))
+}
+
+/// The vector with these entries.
+pub fn vector(entry: impl Fn(usize) -> f64) -> Vector {
+    std::array::from_fn(entry)
+}
+
+/// The matrix with these entries, by row and column.
+pub fn matrix<const N: usize>(entry: impl Fn(usize, usize) -> f64) -> Matrix<N> {
+    std::array::from_fn(|row| std::array::from_fn(|column| entry(row, column)))
+}
+
+/// A·M·Aᵀ, the left product first.
+pub fn congruent(a: Matrix<3>, m: Matrix<3>) -> Matrix<3> {
+    let left: Matrix<3> = matrix(|r, k| dot(a[r], vector(|l| m[l][k])));
+    // Column c of A's transpose is A's row c.
+    matrix(|r, c| dot(left[r], a[c]))
+}
+
+/// The vector that a slice begins with.
+pub fn stored_vector(stored: &[f64]) -> Vector {
+    vector(|row| stored[row])
+}
+
+/// The matrix that a slice begins with.
+pub fn stored_matrix<const N: usize>(stored: &[f64]) -> Matrix<N> {
+    matrix(|row, column| stored[N * column + row])
+}
+
+/// Stores a matrix.
+pub fn store_matrix<const N: usize>(matrix: Matrix<N>, stored: &mut [f64]) {
+    for (row, entries) in matrix.into_iter().enumerate() {
+        for (column, entry) in entries.into_iter().enumerate() {
+            stored[N * column + row] = entry;
+        }
+    }
+}
+
+#[cfg(test)]
+mod tests {
+    use super::*;
+
+    #[test]
+    fn sums_start_from_their_first_term() {
+        let bits = |terms: &[f64]| sum(terms.iter().copied()).to_bits();
+        assert_eq!(bits(&[]), 0.0f64.to_bits());
+        assert_eq!(bits(&[-0.0, -0.0]), (-0.0f64).to_bits());
+        assert_eq!(bits(&[1e16, 1.0, -1e16]), 0.0f64.to_bits());
+    }
+
+    #[test]
+    fn matrices_are_stored_by_columns() {
+        let stored: [f64; 9] = std::array::from_fn(|place| place as f64);
+        let read: Matrix<3> = stored_matrix(&stored);
+        assert_eq!(read[2], [2.0, 5.0, 8.0]);
+        let mut again = [0.0; 9];
+        store_matrix(read, &mut again);
+        assert_eq!(again, stored);
+    }
+}
