@@ -1,0 +1,60 @@
+-- Calls that are made of frames: what an accepted call of both factors is, with a plane and without. Assumes nothing.
+use Prim.Native.Nat.{ℕ, zero, suc, _-_}
+use mathlib.Core.Bool.{_&&_}
+use mathlib.Core.List.{List, [], _∷_}
+use lib.Ieee.{Float}
+use Rattle.terms.specs.Terms.{Term, upto}
+use Rattle.terms.specs.Cells.{addIf, within}
+use Rattle.normal_blocks.specs.declared.Place.{Place}
+use Rattle.normal_blocks.specs.declared.Place.the-variants.{At, Unmapped}
+use Rattle.normal_blocks.specs.Target.{hessianAt, gradientAt}
+use Rattle.normal_list.specs.Calls.{Segment, Call, accepted}
+
+-- The frames of a call: how many there are, each one's place and width, the entries of its block by row and column, and those of its vector.
+pub record Frames : Type 0 where
+  pub count : ℕ
+  pub place : ℕ → Place
+  pub width : ℕ → ℕ
+  pub block : ℕ → ℕ → ℕ → Float
+  pub vector : ℕ → ℕ → Float
+
+-- a mapped frame's segment is `width` rows from its offset; an unmapped frame has none
+abbrev pub segmentAt : ℕ → Place → List Segment
+segmentAt width (At o) = record { offset = o; width = width } ∷ []
+segmentAt width Unmapped = []
+
+-- frame k's segment, and what it adds to the Hessian of order n and to the gradient
+unfoldable pub frameSegment : Frames → ℕ → List Segment
+frameSegment f k = segmentAt (f .width k) (f .place k)
+
+unfoldable pub frameHessian : ℕ → Frames → ℕ → List Term
+frameHessian n f k = hessianAt n (f .width k) (f .place k) (f .block k)
+
+unfoldable pub frameGradient : Frames → ℕ → List Term
+frameGradient f k = gradientAt (f .width k) (f .place k) (f .vector k)
+
+-- an accepted call with a plane: frame after frame
+abbrev pub framed : ℕ → Float → Frames → Call
+framed n x f = accepted x (upto (f .count) (frameSegment f)) (upto (f .count) (frameHessian n f)) (upto (f .count) (frameGradient f))
+
+-- an accepted call without plane: it owns its segments' cells, and adds nothing
+abbrev pub idle : Float → Frames → Call
+idle x f = accepted x (upto (f .count) (frameSegment f)) [] []
+
+-- ---- the book of one cell of such a call: an entry for each frame, in order, whose segment has the cell's row and column
+abbrev pub entryAdded : ℕ → Place → (ℕ → ℕ → Float) → ℕ → ℕ → Float → Float
+entryAdded width (At o) e i j x = addIf (within o width i && within o width j) x (e (i - o) (j - o))
+entryAdded width Unmapped e i j x = x
+
+abbrev pub numberAdded : ℕ → Place → (ℕ → Float) → ℕ → Float → Float
+numberAdded width (At o) v i x = addIf (within o width i) x (v (i - o))
+numberAdded width Unmapped v i x = x
+
+-- cell (i, j) of the Hessian and cell i of the gradient after the first k frames, of their content x
+unfoldable pub hessianCell : Frames → ℕ → ℕ → ℕ → Float → Float
+hessianCell f zero i j x = x
+hessianCell f (suc k) i j x = entryAdded (f .width k) (f .place k) (f .block k) i j (hessianCell f k i j x)
+
+unfoldable pub gradientCell : Frames → ℕ → ℕ → Float → Float
+gradientCell f zero i x = x
+gradientCell f (suc k) i x = numberAdded (f .width k) (f .place k) (f .vector k) i (gradientCell f k i x)

@@ -1,0 +1,9 @@
+pub mod Lists
+pub mod Calls
+pub mod Book
+pub mod Theorem
+pub mod Rows
+pub mod Readings
+pub mod Frames
+pub mod FrameLaws
+pub mod Worked
