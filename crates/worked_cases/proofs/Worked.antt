@@ -9,8 +9,9 @@ use Rattle.moment_matrices.specs.Matrices.{movedOuter, scatterOf}
 use Rattle.point_moments.specs.Moments.{withPoint, transformed, ofPoints, pointReasons, fromPoints}
 use Rattle.point_moments.specs.Scatter.{meanAndScatter}
 use Rattle.point_moments.specs.Plane.{planeOf}
+use Rattle.plane_fit.specs.Axis.{smallestAxis, atLeastOne, absolute}
 use Rattle.worked_cases.specs.Table.{every, table, caseA, caseB, caseC, caseD, caseE, caseF, caseG, caseK}
 
 pub worked : T (every table)
-unfolding table caseA caseB caseC caseD caseE caseF caseG caseK orderOf before keyOf squareRoot sqrtOf toBits ofBits add mul sub div neg lt le risingOf movedOuter scatterOf withPoint transformed ofPoints pointReasons fromPoints meanAndScatter planeOf
+unfolding table caseA caseB caseC caseD caseE caseF caseG caseK orderOf before keyOf squareRoot sqrtOf toBits ofBits add mul sub div neg lt le risingOf movedOuter scatterOf withPoint transformed ofPoints pointReasons fromPoints meanAndScatter planeOf smallestAxis atLeastOne absolute
 worked = tt

@@ -1,6 +1,6 @@
 -- Document 01's worked cases that are marked to be proved: what the definitions give, beside what the paper says. Definitions only.
 use mathlib.Core.Bool.{Bool, true, false, _&&_}
-use mathlib.Core.List.{List, [], _∷_, map}
+use mathlib.Core.List.{List, [], _∷_, _++_, map}
 use Prim.Native.Nat.{ℕ}
 use lib.Dec.{eqb}
 use lib.Ieee.{Float, binary64, ofBits, toBits}
@@ -8,9 +8,13 @@ use Rattle.lists.specs.Part.{_!_}
 use Rattle.point_moments.specs.Moments.{momentsList, fromPoints, transformed}
 use Rattle.point_moments.specs.Scatter.{meanAndScatter, meanList}
 use Rattle.point_moments.specs.Plane.{planeOf}
+use Rattle.plane_fit.specs.Axis.{smallestAxis}
+use Rattle.plane_fit.specs.declared.axis.Fit.{Fit}
+use Rattle.plane_fit.specs.declared.axis.Fit.the-variants.{Plane, NoPlane}
 use Rattle.point_moments.specs.declared.PointMoments.{PointMoments}
 use Rattle.point_moments.specs.declared.plane.MomentsPlane.{MomentsPlane}
-use Rattle.point_moments.specs.declared.plane.MomentsPlane.the-variants.{Found, NoPlane}
+use Rattle.point_moments.specs.declared.plane.MomentsPlane.the-variants.{Found}
+use Rattle.point_moments.specs.declared.plane.MomentsPlane.the-variants as moments
 use Rattle.square_root.specs.Computed.{squareRoot}
 use Rattle.total_order.specs.declared.Order.{Order}
 use Rattle.total_order.specs.Three.{orderOf}
@@ -88,7 +92,7 @@ flag false = 0
 
 abbrev found : MomentsPlane → ℕ
 found (Found n0 n1 n2 offset v0 v1 v2) = 1
-found NoPlane = 0
+found moments.NoPlane = 0
 
 -- (0,0,0), (2,0,0), (0,2,0), (2,2,0)
 abbrev corners : List ℕ
@@ -126,17 +130,35 @@ caseD = record {
   paper = four ∷ four ∷ twenty ∷ twenty ∷ hundred ∷ [];
 }
 
--- e: of the eigenvalues 1, 1, 0 the third comes first, and the equal ones stay in index order
+-- the fit's answer: 1 and the normal, or 0
+abbrev fitted : Fit → List ℕ
+fitted (Plane n0 n1 n2 offset) = 1 ∷ patterns (n0 ∷ n1 ∷ n2 ∷ [])
+fitted NoPlane = 0 ∷ []
+
+-- the fit of a plane through the origin, by three eigenvalues and the unit axes as their vectors
+abbrev fitOf : ℕ → ℕ → ℕ → List ℕ
+fitOf v0 v1 v2 = fitted (smallestAxis (v0 ∷ v1 ∷ v2 ∷ identity) (numbers (0 ∷ 0 ∷ 0 ∷ [])))
+
+-- e: of the eigenvalues 1, 1, 0 the third vector is chosen, and the equal ones stay in index order
 unfoldable pub caseE : Case
-caseE = record { found = places (orderOf one one plusZero); paper = 2 ∷ 0 ∷ 1 ∷ [] }
+caseE = record { found = places (orderOf one one plusZero) ++ fitOf one one plusZero; paper = 2 ∷ 0 ∷ 1 ∷ 1 ∷ 0 ∷ 0 ∷ one ∷ [] }
 
--- f: with the eigenvalues 0, 1e-12, 200 and a count of 4, `plane` accepts
+-- f: with the eigenvalues 0, 1e-12, 200 and a count of 4, `plane` accepts; the fit has no plane
+abbrev narrow : ℕ
+narrow = 0x3d71_9799_812d_ea11
+
+abbrev wide : ℕ
+wide = 0x4069_0000_0000_0000
+
 unfoldable pub caseF : Case
-caseF = record { found = found (planeOf (momentsFrom corners) (plusZero ∷ 0x3d71_9799_812d_ea11 ∷ 0x4069_0000_0000_0000 ∷ identity)) ∷ []; paper = 1 ∷ [] }
+caseF = record {
+  found = found (planeOf (momentsFrom corners) (plusZero ∷ narrow ∷ wide ∷ identity)) ∷ fitOf plusZero narrow wide;
+  paper = 1 ∷ 0 ∷ [];
+}
 
--- g: of -0, 0, 1 the -0 sorts first
+-- g: of -0, 0, 1 the -0 sorts first; gap 0, no plane
 unfoldable pub caseG : Case
-caseG = record { found = places (orderOf minusZero plusZero one); paper = 0 ∷ 1 ∷ 2 ∷ [] }
+caseG = record { found = places (orderOf minusZero plusZero one) ++ fitOf minusZero plusZero one; paper = 0 ∷ 1 ∷ 2 ∷ 0 ∷ [] }
 
 -- k: the roots of 4, of the least subnormal number and of 2
 unfoldable pub caseK : Case

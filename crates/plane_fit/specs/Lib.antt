@@ -1,0 +1,5 @@
+pub mod Records
+pub mod Fit
+pub mod Steps
+pub mod Calls
+pub mod Axis

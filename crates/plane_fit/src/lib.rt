@@ -1,0 +1,263 @@
+// What a plane is fitted to, the mean and the scatter over the frames and then the fixed set; and the fit by a decomposition of them.
+pub mod axis;
+
+ghost use mathlib.Core.Path.{_≡_};
+ghost use Prim.Native.Nat.{ℕ, _+_, _*_, _≤_, _<_};
+ghost use mathlib.Core.List.{_++_};
+ghost use lib.ListN.{length};
+ghost use Rattle.refusals.specs.Refusal.{Answered};
+ghost use Rattle.lists.specs.Part.{part};
+ghost use Rattle.sums.specs.Sum.{plus, grid};
+ghost use Rattle.derivative.specs.Action.{actionSize};
+ghost use Rattle.point_moments.specs.Scatter.{CENTRED};
+ghost use Rattle.plane_fit.specs.Records.{recordOf};
+ghost use Rattle.plane_fit.specs.Fit.{Shaped, centre, turned, spread, fitMean, scatterAbout, fitList};
+ghost use Rattle.plane_fit.specs.Calls.{badFrames, badFixed, badActions, fitRefusal};
+ghost use Rattle.plane_fit.specs.Steps.{withSet, weighed, difference, spreadUpto, meanOf};
+use point_moments::scatter::CENTRED;
+use point_moments::scatter::Centred;
+
+// How many numbers an action is, and the most columns that one has.
+pub const ACTION: usize = 120;
+
+pub const MOST_DOF: u32 = 9;
+
+// The most frames of one plane.
+pub const MOST_FRAMES: usize = 256;
+
+// Record k of a list of records of so many numbers, as a part of the list; an empty part if the list ends before it does.
+pub fn record_at(list: &[f64], size: usize, k: usize) -> &[f64]
+    requires { ⌜ 0 < size ⌝ }
+    ensures { λ r. ⌜ now r ≡ recordOf size (now (list .entry)) k ⌝ }
+{
+    if k < list.len() / size {
+        let at = size * k;
+        let end = at + size;
+        &list[at..end]
+    } else {
+        &list[0..0]
+    }
+}
+
+// The numbers of frame k.
+pub fn frame(frames: &[f64], k: usize) -> &[f64]
+    ensures { λ r. ⌜ now r ≡ recordOf CENTRED (now (frames .entry)) k ⌝ }
+{
+    record_at(frames, CENTRED, k)
+}
+
+// A·mean + b: the frame's mean carried into the site by the action x.
+pub fn centre(x: &[f64], f: Centred) -> [f64; 3]
+    requires { ⌜ length (now x) ≡ actionSize ⌝ }
+    ensures { λ r. ⌜ r ≡ centre (now (x .entry)) f ⌝ }
+{
+    let mean = f.mean;
+    let turned = linear::mat_vec(lists::nine(x, 0), mean);
+    linear::plus3(turned, lists::three(x, 9))
+}
+
+// The counts of some sets, and the sum of their means times their counts.
+pub struct Weighted {
+    pub total: f64,
+    pub sum: [f64; 3],
+}
+
+impl Weighted {
+    // With a set of n points whose mean is w.
+    fn with_set(self, w: [f64; 3], n: f64) -> Weighted
+        ensures { λ r. ⌜ r ≡ withSet self w n ⌝ }
+    {
+        let u = self.sum;
+        Weighted {
+            total: self.total + n,
+            sum: [u[0] + w[0] * n, u[1] + w[1] * n, u[2] + w[2] * n],
+        }
+    }
+
+    fn mean(self) -> [f64; 3]
+        ensures { λ r. ⌜ r ≡ meanOf self ⌝ }
+    {
+        let n = self.total;
+        let u = self.sum;
+        [u[0] / n, u[1] / n, u[2] / n]
+    }
+}
+
+// The first `count` frames weighed.
+fn weigh(frames: &[f64], actions: &[f64], count: usize) -> Weighted
+    requires { ⌜ (CENTRED * count ≤ length (now frames)) × (actionSize * count ≤ length (now actions)) ⌝ }
+    ensures { λ r. ⌜ r ≡ weighed (now (frames .entry)) (now (actions .entry)) count ⌝ }
+{
+    let mut s = Weighted {
+        total: 0.0,
+        sum: [0.0; 3],
+    };
+    for k in 0..count {
+        let f = Centred::from_list(frame(frames, k));
+        let w = centre(record_at(actions, ACTION, k), f);
+        s = s.with_set(w, f.count);
+    }
+    s
+}
+
+fn difference(w: [f64; 3], mean: [f64; 3]) -> [f64; 3]
+    ensures { λ r. ⌜ r ≡ difference w mean ⌝ }
+{
+    [w[0] - mean[0], w[1] - mean[1], w[2] - mean[2]]
+}
+
+// The scatter about `mean` of n points whose scatter about their own mean w is s.
+fn spread(s: [f64; 9], w: [f64; 3], n: f64, mean: [f64; 3]) -> [f64; 9]
+    ensures { λ r. ⌜ r ≡ grid 3 3 (spread s w n mean) ⌝ }
+{
+    let o = difference(w, mean);
+    linear::plus9(s, linear::outer_scaled(o, o, n))
+}
+
+// The same of a frame that the action x carries into the site: its scatter turned, A·S·Aᵀ, and its mean moved.
+fn spread_of(x: &[f64], f: Centred, mean: [f64; 3]) -> [f64; 9]
+    requires { ⌜ length (now x) ≡ actionSize ⌝ }
+    ensures { λ r. ⌜ r ≡ grid 3 3 (spread (turned (now (x .entry)) f) (centre (now (x .entry)) f) (f .count) mean) ⌝ }
+{
+    let s = f.scatter;
+    let t = linear::congruent(lists::nine(x, 0), s);
+    spread(t, centre(x, f), f.count, mean)
+}
+
+// A scatter that grows by the parts of the sets.
+struct Scatter {
+    entries: [f64; 9],
+}
+
+impl Scatter {
+    fn with_part(self, part: [f64; 9]) -> Scatter
+        ensures { λ r. ⌜ r .entries ≡ plus 9 (self .entries) part ⌝ }
+    {
+        let e = self.entries;
+        let entries = linear::plus9(e, part);
+        Scatter { entries }
+    }
+}
+
+// The scatter of the first `count` frames about `mean`.
+fn scatter_of(frames: &[f64], actions: &[f64], count: usize, mean: [f64; 3]) -> Scatter
+    requires { ⌜ (CENTRED * count ≤ length (now frames)) × (actionSize * count ≤ length (now actions)) ⌝ }
+    ensures { λ r. ⌜ r .entries ≡ spreadUpto (now (frames .entry)) (now (actions .entry)) mean count ⌝ }
+{
+    let mut s = Scatter { entries: [0.0; 9] };
+    for k in 0..count {
+        let f = Centred::from_list(frame(frames, k));
+        s = s.with_part(spread_of(record_at(actions, ACTION, k), f, mean));
+    }
+    s
+}
+
+// The mean of all frames and the fixed set, count-weighted.
+pub fn fit_mean(frames: &[f64], fixed: &[f64], actions: &[f64]) -> [f64; 3]
+    requires { ⌜ Shaped (now frames) (now fixed) (now actions) ⌝ }
+    ensures { λ r. ⌜ r ≡ fitMean (now (frames .entry)) (now (fixed .entry)) (now (actions .entry)) ⌝ }
+{
+    let count = frames.len() / CENTRED;
+    let s = weigh(frames, actions, count);
+    if fixed.len() == 0 {
+        return s.mean();
+    }
+    let f = Centred::from_list(fixed);
+    let w = f.mean;
+    s.with_set(w, f.count).mean()
+}
+
+// The scatter of all frames and the fixed set about `mean`.
+fn fit_scatter(frames: &[f64], fixed: &[f64], actions: &[f64], mean: [f64; 3]) -> Scatter
+    requires { ⌜ Shaped (now frames) (now fixed) (now actions) ⌝ }
+    ensures { λ r. ⌜ r .entries ≡ grid 3 3 (scatterAbout (now (frames .entry)) (now (fixed .entry)) (now (actions .entry)) mean) ⌝ }
+{
+    let count = frames.len() / CENTRED;
+    let s = scatter_of(frames, actions, count, mean);
+    if fixed.len() == 0 {
+        return s;
+    }
+    let f = Centred::from_list(fixed);
+    let t = f.scatter;
+    let w = f.mean;
+    s.with_part(spread(t, w, f.count, mean))
+}
+
+// 3: the list is not whole frames, or has more than 256.
+pub fn bad_frames(frames: &[f64]) -> bool
+    ensures { λ r. ⌜ r ≡ badFrames (now (frames .entry)) ⌝ }
+{
+    if frames.len() % CENTRED != 0 {
+        return true;
+    }
+    frames.len() / CENTRED > MOST_FRAMES
+}
+
+// 3: a fixed set is nothing or one frame.
+pub fn bad_fixed(fixed: &[f64]) -> bool
+    ensures { λ r. ⌜ r ≡ badFixed (now (fixed .entry)) ⌝ }
+{
+    if fixed.len() == 0 {
+        return false;
+    }
+    fixed.len() != CENTRED
+}
+
+// 8: the actions are not one for each frame. Divided and not multiplied, so that no length overflows.
+pub fn bad_actions(frames: &[f64], actions: &[f64]) -> bool
+    ensures { λ r. ⌜ r ≡ badActions (now (frames .entry)) (now (actions .entry)) ⌝ }
+{
+    if actions.len() % ACTION != 0 {
+        return true;
+    }
+    actions.len() / ACTION != frames.len() / CENTRED
+}
+
+// Mean and scatter as a host is told them.
+fn told(mean: [f64; 3], s: Scatter) -> [f64; 12]
+    ensures { λ r. ⌜ r ≡ part 3 mean 0 ++ part 9 (s .entries) 0 ⌝ }
+{
+    let e = s.entries;
+    [
+        mean[0],
+        mean[1],
+        mean[2],
+        e[0],
+        e[1],
+        e[2],
+        e[3],
+        e[4],
+        e[5],
+        e[6],
+        e[7],
+        e[8],
+    ]
+}
+
+// The host's call: the fit's mean and scatter, for the decomposition that the host makes of it. The number of the reason to refuse, or 0.
+pub fn fit(dof: u32, frames: &[f64], fixed: &[f64], actions: &[f64], out: &mut [f64]) -> u32
+    ensures { λ r. ⌜ Answered (fitRefusal dof (now (frames .entry)) (now (fixed .entry)) (now (actions .entry)) (now (out .entry))) r (now (out .entry)) (now (out .exit)) (fitList (now (frames .entry)) (now (fixed .entry)) (now (actions .entry))) ⌝ }
+{
+    if dof > MOST_DOF {
+        return 1;
+    }
+    if frames.len() == 0 {
+        return 2;
+    }
+    if bad_frames(frames) {
+        return 3;
+    }
+    if bad_fixed(fixed) {
+        return 3;
+    }
+    if out.len() != 12 {
+        return 3;
+    }
+    if bad_actions(frames, actions) {
+        return 8;
+    }
+    let mean = fit_mean(frames, fixed, actions);
+    let answer = told(mean, fit_scatter(frames, fixed, actions, mean));
+    lists::store(out, &answer);
+    0
+}
