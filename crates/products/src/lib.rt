@@ -47,22 +47,35 @@ pub fn vec_mat(v: &[f64], m: &[f64], rows: usize, cols: usize) -> [f64; 9]
     row
 }
 
-// One column of a product: a of `rows` by `inner` times the `inner` numbers of b from `from` on, written to out from `at` on.
-fn column(a: &[f64], rows: usize, inner: usize, b: &[f64], from: usize, out: &mut [f64], at: usize)
-    requires { ⌜ (length (now a) ≡ inner * rows) × (from + inner ≤ length (now b)) × (at + rows ≤ length (now out)) ⌝ }
-    ensures { λ _. ⌜ now (out .exit) ≡ written (now (out .entry)) at rows (columnEntry rows inner (now (a .entry)) (now (b .entry)) from) ⌝ }
+// One column of a product: a of `rows` by `inner` times the `inner` numbers of b from `from` on.
+fn column(a: &[f64], rows: usize, inner: usize, b: &[f64], from: usize) -> [f64; 9]
+    requires { ⌜ (rows ≤ 9) × (length (now a) ≡ inner * rows) × (from + inner ≤ length (now b)) ⌝ }
+    ensures { λ r. ⌜ r ≡ padded 9 rows (columnEntry rows inner (now (a .entry)) (now (b .entry)) from) ⌝ }
 {
+    let mut column = [0.0; 9];
     for r in 0..rows {
-        out[at + r] = strided(a, r, rows, b, from, 1, inner);
+        column[r] = strided(a, r, rows, b, from, 1, inner);
+    }
+    column
+}
+
+// The first n numbers of `from` are written to out from `at` on.
+fn write(from: [f64; 9], n: usize, out: &mut [f64], at: usize)
+    requires { ⌜ (n ≤ 9) × (at + n ≤ length (now out)) ⌝ }
+    ensures { λ _. ⌜ now (out .exit) ≡ written (now (out .entry)) at n (λ k. getD from k nan) ⌝ }
+{
+    for k in 0..n {
+        out[at + k] = from[k];
     }
 }
 
 // a b, with a of `rows` by `inner` and b of `inner` by `cols`.
 pub fn product(a: &[f64], b: &[f64], rows: usize, inner: usize, cols: usize, out: &mut [f64])
-    requires { ⌜ (length (now a) ≡ inner * rows) × (length (now b) ≡ cols * inner) × (length (now out) ≡ cols * rows) ⌝ }
+    requires { ⌜ (rows ≤ 9) × (length (now a) ≡ inner * rows) × (length (now b) ≡ cols * inner) × (length (now out) ≡ cols * rows) ⌝ }
     ensures { λ _. ⌜ now (out .exit) ≡ product rows inner cols (now (a .entry)) (now (b .entry)) ⌝ }
 {
     for c in 0..cols {
-        column(a, rows, inner, b, c * inner, out, c * rows);
+        let one = column(a, rows, inner, b, c * inner);
+        write(one, rows, out, c * rows);
     }
 }

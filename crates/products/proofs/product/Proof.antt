@@ -1,9 +1,12 @@
 -- `products::product` meets its contract: after c turns the first c columns are the product's. Assumes nothing.
 use denote.Ref.{now}
-use Prim.Native.Nat.{_≤_, _-_, _*_, _+_}
+use Prim.Native.Nat.{ℕ, _≤_, _<_, _-_, _*_, _+_}
 use native.Mathlib.Omega.{arith}
+use mathlib.Core.Path.{_≡_, _∙_}
+use lib.ListN.{getD}
+use lib.Ieee.{nan}
 use borrow.Author.Needs.{needs}
-use Rattle.sums.specs.Fill.{Columns, columns-none, column-ends, columns-more, columns-all}
+use Rattle.sums.specs.Fill.{padded-first, written-same, Columns, columns-none, column-ends, columns-more, columns-all}
 use Rattle.products.specs.Entry.{columnEntry, entryAt}
 use Rattle.products.proofs.product.Statement.{statement}
 use Rattle.products.proofs.product.Tie as tie
@@ -22,20 +25,29 @@ ends c =
     (column-ends (a .inner) (a .cols) k (c .loop-test .taken), column-ends (a .rows) (a .cols) k (c .loop-test .taken))
 
 column-requires : tie.Need-column-requires Inv-loop μ-loop
-column-requires c κs = (search needs, omega (arith, ends (c .before)), omega (arith, ends (c .before)))
+column-requires c κs = (search needs, search needs, omega (arith, ends c))
+
+write-requires : tie.Need-write-requires Inv-loop μ-loop
+write-requires c κs = (search needs, omega (arith, ends (c .before .before)))
 
 loop-again : tie.Need-loop-again Inv-loop μ-loop
 unfolding entryAt
 loop-again c =
-    let s = c .before .before .before .before .before .before .before .before .before in
-    let l = c .before .before .before .before .before .loop in
-    columns-more (s .args .rows) (s .args .cols) _ (now (s .args .out)) (l .out) _ (l .c) (s .pre .2) (c .before .before .before .before .loop-test .taken) (l .inv) (c .before .before .column .ensures)
+    let turn = c .before .before .before .before .before in
+    let s = turn .before .before .before .before .before in
+    let a = s .args in
+    let l = turn .before .loop in
+    let f = entryAt (a .rows) (a .inner) (now (a .a)) (now (a .b)) in
+    let one = c .before .before .before .before .column in
+    let same : (k : ℕ) → k < a .rows → getD (one .result) k nan ≡ f k (l .c) = λ k h. rw (one .ensures) (padded-first 9 (a .rows) _ k h) in
+    let out = c .before .before .write .ensures ∙ written-same (l .out) (l .c * a .rows) (a .rows) _ (λ r. f r (l .c)) same in
+    columns-more (a .rows) (a .cols) f (now (a .out)) (l .out) _ (l .c) (s .pre .3) (turn .loop-test .taken) (l .inv) out
 
 returns : tie.Need-returns Inv-loop μ-loop
 unfolding entryAt columnEntry
 returns c =
     let s = c .before .before .before .before .before in
-    columns-all (s .args .rows) (s .args .cols) _ (now (s .args .out)) _ _ (s .pre .2) (c .loop-test .left) (c .before .loop .inv)
+    columns-all (s .args .rows) (s .args .cols) _ (now (s .args .out)) _ _ (s .pre .3) (c .loop-test .left) (c .before .loop .inv)
 
 pub product-spec : {M : Type 1} → statement M
 product-spec =
@@ -45,8 +57,9 @@ product-spec =
     μ-loop
     (λ c. columns-none _ _ _ _)
     (λ c. omega (arith, ends c))
-    (λ c. omega (arith, ends (c .before)))
     column-requires
+    (λ c. omega (arith, ends (c .before .before)))
+    write-requires
     (λ c. search needs)
     (λ c. search needs)
     loop-again

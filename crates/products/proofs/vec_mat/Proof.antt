@@ -1,11 +1,12 @@
 -- `products::vec_mat` meets its contract: after c turns the first c numbers are there. Assumes nothing.
 use denote.Ref.{now}
 use Prim.Native.Nat.{_≤_, _-_, _*_, _+_}
+use native.Mathlib.Nat.{mul-le-mul-right}
 use native.Mathlib.Omega.{arith}
 use mathlib.Core.Path.{_∙_}
 use lib.ListN.{length}
 use borrow.Author.Needs.{needs}
-use Rattle.sums.specs.Fill.{column-ends, Filling, filling-none, filling-more, filling-all}
+use Rattle.sums.specs.Fill.{Filling, filling-none, filling-more, filling-all}
 use Rattle.products.specs.Entry.{rowEntry, row-steps}
 use Rattle.products.proofs.vec_mat.Statement.{statement}
 use Rattle.products.proofs.vec_mat.Tie as tie
@@ -18,9 +19,7 @@ abbrev μ-loop : tie.MeasureT-loop
 
 -- a turn's column ends within m
 ends : (c : tie.In-loop Inv-loop μ-loop) → let a = c .before .before .before .before .args in c .before .loop .c * a .rows + a .rows ≤ length (now (a .m))
-ends c =
-    let a = c .before .before .before .before .args in
-    omega (arith, column-ends (a .rows) (a .cols) (c .before .loop .c) (c .loop-test .taken))
+ends c = omega (arith, mul-le-mul-right (c .before .before .before .before .args .rows) (c .loop-test .taken))
 
 loop-again : tie.Need-loop-again Inv-loop μ-loop
 loop-again c =
