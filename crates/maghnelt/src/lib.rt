@@ -5,6 +5,10 @@ ghost use Rattle.total_order.specs.Key.{keyOf};
 ghost use Rattle.refusals.specs.Refusal.{Answered};
 ghost use Rattle.moment_lists.specs.Calls.{FromPoints, Pushes, Merges, Transforms, FindsMean, FindsPlane};
 ghost use Rattle.plane_lists.specs.Calls.{newRefusal, newPlane, SigmaAnswered};
+ghost use Rattle.normal_blocks.specs.Map.{remapped};
+ghost use Rattle.normal_blocks.specs.Calls.{remapRefusal};
+ghost use Rattle.plane_fit.specs.Fit.{fitList};
+ghost use Rattle.plane_fit.specs.Calls.{fitRefusal};
 
 // IEEE 754's squareRoot.
 #[no_mangle]
@@ -114,4 +118,26 @@ pub extern "C" fn maghnelt_point_to_plane_sigma(
         d_world_d_point,
         sigma,
     )
+}
+
+// The map that an index list makes of a map.
+#[no_mangle]
+pub extern "C" fn maghnelt_remap(map: &[u32], list: &[u32], out: &mut [u32]) -> u32
+    ensures { λ r. ⌜ Answered (remapRefusal (now (map .entry)) (now (list .entry)) (now (out .entry))) r (now (out .entry)) (now (out .exit)) (remapped (now (map .entry)) (now (list .entry))) ⌝ }
+{
+    normal_blocks::remap(map, list, out)
+}
+
+// The mean and the scatter of what a plane is fitted to.
+#[no_mangle]
+pub extern "C" fn maghnelt_frames_fit(
+    dof: u32,
+    frames: &[f64],
+    fixed: &[f64],
+    actions: &[f64],
+    out: &mut [f64],
+) -> u32
+    ensures { λ r. ⌜ Answered (fitRefusal dof (now (frames .entry)) (now (fixed .entry)) (now (actions .entry)) (now (out .entry))) r (now (out .entry)) (now (out .exit)) (fitList (now (frames .entry)) (now (fixed .entry)) (now (actions .entry))) ⌝ }
+{
+    plane_fit::fit(dof, frames, fixed, actions, out)
 }

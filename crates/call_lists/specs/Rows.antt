@@ -7,8 +7,8 @@ use mathlib.Core.Logic.{_⊎_, inl, inr, ⊎-elim}
 use native.Mathlib.Omega.{arith}
 use lib.Dec.{leb}
 use borrow.Author.Tests.{leb-true}
-use Rattle.normal_list.specs.Lists.{Every, Some, Pairs}
-use Rattle.normal_list.specs.Calls.{Segment, Call, segments, Has, Disjoint}
+use Rattle.call_lists.specs.Lists.{Every, Some, Pairs}
+use Rattle.call_lists.specs.Calls.{Segment, Call, segments, Has, Disjoint}
 
 abbrev pub allOf : {A : Type 0} → (A → Bool) → List A → Bool
 allOf test [] = true

@@ -5,7 +5,7 @@ use mathlib.Core.Path.{_≡_}
 use mathlib.Core.List.{List, []}
 use lib.Ieee.{Float}
 use Rattle.terms.specs.Terms.{Term, addAll}
-use Rattle.normal_list.specs.Lists.{Every, Some}
+use Rattle.call_lists.specs.Lists.{Every, Some}
 
 -- what a call returns: the number of a refusal, or the cost
 pub data Answer : Type 0 where

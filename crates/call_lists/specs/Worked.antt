@@ -15,13 +15,13 @@ use Rattle.terms.specs.Cells.{atCell}
 use Rattle.normal_blocks.specs.Target.{hessianAt}
 use Rattle.normal_blocks.specs.Somewhere.{somewhere}
 use Rattle.normal_blocks.specs.Map.{UNMAPPED, placeOf, wordAt, lookup, exceeds, exceedsAt, someExceeds}
-use Rattle.normal_list.specs.Lists.{In, Every, every-in}
-use Rattle.normal_list.specs.Calls.{Answer, refusal, cost, Call, judged, OwnsCell, Tame, Made}
-use Rattle.normal_list.specs.Theorem.{callAt, Chain, RowsApart, Settled, settled}
-use Rattle.normal_list.specs.Rows.{rows-apart}
-use Rattle.normal_list.specs.Readings.{hessian-at, hessian-kept-at}
-use Rattle.normal_list.specs.Frames.{Frames, frameSegment, frameHessian, framed, idle, hessianCell}
-use Rattle.normal_list.specs.FrameLaws.{framed-tame, idle-tame, judged-tame, framed-hessian}
+use Rattle.call_lists.specs.Lists.{In, Every, every-in}
+use Rattle.call_lists.specs.Calls.{Answer, refusal, cost, Call, judged, OwnsCell, Tame, Made}
+use Rattle.call_lists.specs.Theorem.{callAt, Chain, RowsApart, Settled, settled}
+use Rattle.call_lists.specs.Rows.{rows-apart}
+use Rattle.call_lists.specs.Readings.{hessian-at, hessian-kept-at}
+use Rattle.call_lists.specs.Frames.{Frames, frameSegment, frameHessian, framed, idle, hessianCell}
+use Rattle.call_lists.specs.FrameLaws.{framed-tame, idle-tame, judged-tame, framed-hessian}
 
 -- the factor: frames one row wide, each adding one number, if there is a plane
 record Work : Type 0 where

@@ -16,10 +16,10 @@ use Rattle.normal_blocks.specs.Map.{exceeds, someExceeds}
 use Rattle.normal_blocks.specs.Laws.{fits, fits-at}
 use Rattle.normal_blocks.specs.Target.{hessianAt, gradientAt}
 use Rattle.normal_blocks.specs.TargetLaws.{hessian-same, gradient-same}
-use Rattle.normal_list.specs.Lists.{Every, Some, every-upto, some-upto, every-imp}
-use Rattle.normal_list.specs.Calls.{Answer, refusal, cost, Segment, Call, refused, accepted, judged, hessianTerms, gradientTerms, Has, HasBoth, OwnsRow, OwnsPlace, Tame, Ran}
-use Rattle.normal_list.specs.Readings.{row-is, column-is}
-use Rattle.normal_list.specs.Frames.{Frames, segmentAt, frameSegment, frameHessian, frameGradient, framed, idle, entryAdded, numberAdded, hessianCell, gradientCell}
+use Rattle.call_lists.specs.Lists.{Every, Some, every-upto, some-upto, every-imp}
+use Rattle.call_lists.specs.Calls.{Answer, refusal, cost, Segment, Call, refused, accepted, judged, hessianTerms, gradientTerms, Has, HasBoth, OwnsRow, OwnsPlace, Tame, Ran}
+use Rattle.call_lists.specs.Readings.{row-is, column-is}
+use Rattle.call_lists.specs.Frames.{Frames, segmentAt, frameSegment, frameHessian, frameGradient, framed, idle, entryAdded, numberAdded, hessianCell, gradientCell}
 
 -- ---- a loop over frames: one frame more, at the place that was looked up, with entries that were worked out
 module _ (f : Frames) (k : ℕ) (p : Place) (at : p ≡ f .place k) where

@@ -12,7 +12,7 @@ use borrow.Author.Tests.{eqb-true, eqb-false}
 use Rattle.terms.specs.Terms.{Term, addAll}
 use Rattle.terms.specs.Laws.{length-addAll}
 use Rattle.terms.specs.Cells.{addIf, atCell, getD-addAll}
-use Rattle.normal_list.specs.Lists.{In, Every, Pairs, every-in, every-imp, every-perm, pairs-perm}
+use Rattle.call_lists.specs.Lists.{In, Every, Pairs, every-in, every-imp, every-perm, pairs-perm}
 
 -- THE BOOK OF A CELL: of its content x, each call's terms for the cell are added, call after call, term after term
 unfoldable pub book : {C : Type 0} → (C → List Term) → ℕ → List C → Float → Float

@@ -9,9 +9,9 @@ use lib.Ieee.{Float, nan}
 use Rattle.terms.specs.Terms.{Term, cellOf}
 use Rattle.terms.specs.Laws.{column-before}
 use Rattle.terms.specs.Cells.{atCell}
-use Rattle.normal_list.specs.Lists.{In, every-in}
-use Rattle.normal_list.specs.Calls.{Answer, cost, Call, refused, accepted, answer, hessianTerms, gradientTerms, OwnsRow, OwnsCell, OwnsPlace, Tame, Made}
-use Rattle.normal_list.specs.Theorem.{callAt, Settled}
+use Rattle.call_lists.specs.Lists.{In, every-in}
+use Rattle.call_lists.specs.Calls.{Answer, cost, Call, refused, accepted, answer, hessianTerms, gradientTerms, OwnsRow, OwnsCell, OwnsPlace, Tame, Made}
+use Rattle.call_lists.specs.Theorem.{callAt, Settled}
 
 -- the row, the column and the place of cell (i, j)
 pub row-is : (n i j : ℕ) → i < n → cellOf n i j % n ≡ i

@@ -8,7 +8,7 @@ use Rattle.terms.specs.Cells.{addIf, within}
 use Rattle.normal_blocks.specs.declared.Place.{Place}
 use Rattle.normal_blocks.specs.declared.Place.the-variants.{At, Unmapped}
 use Rattle.normal_blocks.specs.Target.{hessianAt, gradientAt}
-use Rattle.normal_list.specs.Calls.{Segment, Call, accepted}
+use Rattle.call_lists.specs.Calls.{Segment, Call, accepted}
 
 -- The frames of a call: how many there are, each one's place and width, the entries of its block by row and column, and those of its vector.
 pub record Frames : Type 0 where

@@ -10,9 +10,9 @@ use lib.Ieee.{Float, nan}
 use Rattle.terms.specs.Terms.{Term, cellOf, addAll}
 use Rattle.terms.specs.Laws.{length-addAll, column-before}
 use Rattle.terms.specs.Cells.{atCell}
-use Rattle.normal_list.specs.Lists.{In, Every, Pairs, every-in, in-every, every-imp, some-imp, pairs-imp, pairs-map}
-use Rattle.normal_list.specs.Book.{book, Claims, after, length-after, after-is, book-map, book-kept, book-owner, book-order}
-use Rattle.normal_list.specs.Calls.{Answer, Call, answer, segments, hessianTerms, gradientTerms, Has, HasBoth, OwnsRow, OwnsCell, OwnsPlace, Disjoint, Tame, Ran, Made}
+use Rattle.call_lists.specs.Lists.{In, Every, Pairs, every-in, in-every, every-imp, some-imp, pairs-imp, pairs-map}
+use Rattle.call_lists.specs.Book.{book, Claims, after, length-after, after-is, book-map, book-kept, book-owner, book-order}
+use Rattle.call_lists.specs.Calls.{Answer, Call, answer, segments, hessianTerms, gradientTerms, Has, HasBoth, OwnsRow, OwnsCell, OwnsPlace, Disjoint, Tame, Ran, Made}
 
 module _ {W R : Type 0} (callOf : ℕ → ℕ → W → Call) (answerOf : R → Answer) where
   -- the book's call of one that was made, from its own inputs and the two lengths
