@@ -7,3 +7,4 @@ pub mod Readings
 pub mod Frames
 pub mod FrameLaws
 pub mod Worked
+pub mod Accumulated
