@@ -1,15 +1,36 @@
--- The host's call `remap`: why it is refused, and what it leaves where it is not. Assumes nothing.
-use Prim.Native.Nat.{ℕ}
-use mathlib.Core.Bool.{_||_}
+-- Why a call is refused, as far as maps and targets go: the shape of a target, and the host's call `remap`. Assumes nothing.
+use Prim.Native.Nat.{ℕ, _*_, _≤_}
+use mathlib.Core.Path.{_≡_, refl}
+use mathlib.Core.Bool.{Bool, true, false, not, _||_}
 use mathlib.Core.List.{List, [], _∷_}
-use lib.Dec.{ltb}
+use lib.Dec.{ltb, eqb}
 use lib.ListN.{length}
+use borrow.Author.Tests.{ltb-false, eqb-true, not-false}
 use Rattle.refusals.specs.Refusal.{_when_, firstOf, wrongLength}
 use Rattle.normal_blocks.specs.Map.{badWords}
 
 -- the most words of a map, and so of an index list, which makes one
 abbrev pub MOST_WORDS : ℕ
 MOST_WORDS = 1024
+
+-- the highest order of a Hessian
+abbrev pub MOST_ROWS : ℕ
+MOST_ROWS = 1024
+
+-- 3, of a call that accumulates: a map of too many words, a gradient of too many rows n, or a Hessian that has not n·n cells
+unfoldable pub badTarget : ℕ → ℕ → ℕ → Bool
+badTarget words cells n = ltb MOST_WORDS words || (ltb MOST_ROWS n || not (eqb cells (n * n)))
+
+-- what a call may rely on where the test does not apply
+either-none : (a b : Bool) → (a || b) ≡ false → (a ≡ false) × (b ≡ false)
+either-none true b h = (h, cc)
+either-none false b h = (refl, h)
+
+pub square : (words cells n : ℕ) → badTarget words cells n ≡ false → (n ≤ MOST_ROWS) × (cells ≡ n * n)
+unfolding badTarget
+square words cells n h =
+    let p = either-none (ltb MOST_ROWS n) _ (either-none (ltb MOST_WORDS words) _ h .1) in
+    (ltb-false MOST_ROWS n (p .0), eqb-true cells (n * n) (not-false _ (p .1)))
 
 unfoldable pub remapRefusal : List ℕ → List ℕ → List ℕ → ℕ
 remapRefusal m list out =

@@ -6,13 +6,16 @@ ghost use mathlib.Core.Bool.{false};
 ghost use lib.ListN.{length};
 ghost use Rattle.refusals.specs.Refusal.{Answered};
 ghost use Rattle.normal_blocks.specs.Map.{placeOf, badWord, badWords, wordAt, lookup, remapped, exceeds, someExceeds};
-ghost use Rattle.normal_blocks.specs.Calls.{remapRefusal};
+ghost use Rattle.normal_blocks.specs.Calls.{badTarget, remapRefusal};
 
 // The word of a frame that goes nowhere.
 pub const UNMAPPED: u32 = 0x4000_0000;
 
 // The most words of a map.
 pub const MOST_WORDS: usize = 1024;
+
+// The highest order of a Hessian.
+pub const MOST_ROWS: usize = 1024;
 
 // Where a frame goes: its offset in the Hessian, or nowhere.
 pub enum Place {
@@ -89,6 +92,19 @@ pub fn some_exceeds(map: &[u32], count: usize, width: usize, n: usize) -> bool
         k += 1;
     }
     false
+}
+
+// Reason 3 of a call that adds to a Hessian of so many cells and a gradient of n by a map of so many words.
+pub fn bad_target(words: usize, cells: usize, n: usize) -> bool
+    ensures { λ r. ⌜ r ≡ badTarget words cells n ⌝ }
+{
+    if words > MOST_WORDS {
+        return true;
+    }
+    if n > MOST_ROWS {
+        return true;
+    }
+    cells != n * n
 }
 
 // The word that a word of an index list becomes.
