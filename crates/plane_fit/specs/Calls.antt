@@ -1,14 +1,15 @@
 -- Why a call on frames is refused, as far as frames, fixed set and actions go; and the call that asks for the fit's mean and scatter. Assumes nothing.
-use mathlib.Core.Path.{_≡_, refl, sym}
-use mathlib.Core.Bool.{Bool, true, false, not, _||_, _&&_}
+use mathlib.Core.Path.{_≡_, refl, _∙_}
+use mathlib.Core.Bool.{Bool, true, false, not, _||_}
 use mathlib.Core.Logic.{_⊎_, inl, inr}
 use mathlib.Core.List.{List, [], _∷_}
-use Prim.Native.Nat.{ℕ, _*_, _%_, _≤_}
+use Prim.Native.Nat.{ℕ, zero, suc, _*_, _/_, _%_, _≤_}
+use native.Mathlib.Nat.{div-add-mod', mul-comm, mul-zero, mul-one}
 use native.Mathlib.Omega.{arith}
 use lib.Dec.{ltb, eqb}
 use lib.ListN.{length}
 use lib.Ieee.{Float}
-use borrow.Author.Tests.{ltb-false, eqb-true, not-false}
+use borrow.Author.Tests.{le-ltb, eq-eqb, ltb-false, eqb-true, not-false}
 use Rattle.refusals.specs.Refusal.{_when_, firstOf}
 use Rattle.derivative.specs.Action.{actionSize}
 use Rattle.point_moments.specs.Scatter.{CENTRED}
@@ -21,13 +22,16 @@ mostFrames = 256
 abbrev pub mostDof : ℕ
 mostDof = 9
 
--- 3: the list is not whole records, or has too many
-unfoldable pub badFrames : List Float → Bool
-badFrames frames = not (eqb (length frames % CENTRED) 0) || ltb mostFrames (frameCount frames)
+-- 3: a list is not whole records of so many numbers, or has more than so many
+unfoldable pub badRecords : ℕ → ℕ → List Float → Bool
+badRecords size most list = not (eqb (length list % size) 0) || ltb most (length list / size)
 
--- 3: a fixed slice is 0 or CENTRED numbers
-unfoldable pub badFixed : List Float → Bool
-badFixed fixed = not (eqb (length fixed) 0) && not (eqb (length fixed) CENTRED)
+abbrev pub badFrames : List Float → Bool
+badFrames frames = badRecords CENTRED mostFrames frames
+
+-- 3: a fixed slice is 0 or CENTRED numbers, which is at most one record (`fixed-good` and `whole-fixed`)
+abbrev pub badFixed : List Float → Bool
+badFixed fixed = badRecords CENTRED 1 fixed
 
 -- 8: the actions are not 120 numbers for each frame
 unfoldable pub badActions : List Float → List Float → Bool
@@ -48,25 +52,35 @@ either-none : (a b : Bool) → (a || b) ≡ false → (a ≡ false) × (b ≡ fa
 either-none true b h = (h, cc)
 either-none false b h = (refl, h)
 
-both-none : (a b : Bool) → (not a && not b) ≡ false → (a ≡ true) ⊎ (b ≡ true)
-both-none true b h = inl refl
-both-none false true h = inr refl
-both-none false false h = inl (sym h)
+pub whole-records : (size most : ℕ) (list : List Float) → badRecords size most list ≡ false → (length list ≡ size * (length list / size)) × (length list / size ≤ most)
+unfolding badRecords
+whole-records size most list h =
+    let p = either-none _ _ h in
+    let e : length list % size ≡ 0 = eqb-true (length list % size) 0 (not-false _ (p .0)) in
+    (omega (arith, div-add-mod' (length list) size, mul-comm size (length list / size)), ltb-false most (length list / size) (p .1))
+
+pub good-records : (size most : ℕ) (list : List Float) → length list % size ≡ 0 → length list / size ≤ most → badRecords size most list ≡ false
+unfolding badRecords
+good-records size most list e h = rw (eq-eqb _ _ e, le-ltb _ _ h)
+
+-- at most one record: nothing, or the record
+pub at-most-one : (size : ℕ) (list : List Float) → badRecords size 1 list ≡ false → (length list ≡ 0) ⊎ (length list ≡ size)
+at-most-one size list h = go (length list / size) refl (whole-records size 1 list h .1)
+  where
+    go : (q : ℕ) → length list / size ≡ q → length list / size ≤ 1 → (length list ≡ 0) ⊎ (length list ≡ size)
+    go zero e l = inl (whole-records size 1 list h .0 ∙ rw (e, mul-zero))
+    go (suc zero) e l = inr (whole-records size 1 list h .0 ∙ rw (e, mul-one))
+    go (suc (suc q)) e l = absurd (omega arith)
 
 pub whole-frames : (frames : List Float) → badFrames frames ≡ false → (length frames ≡ CENTRED * frameCount frames) × (frameCount frames ≤ mostFrames)
-unfolding badFrames
-whole-frames frames h =
-    let p = either-none _ _ h in
-    let e : length frames % CENTRED ≡ 0 = eqb-true (length frames % CENTRED) 0 (not-false _ (p .0)) in
-    (omega arith, ltb-false mostFrames (frameCount frames) (p .1))
+whole-frames frames h = whole-records CENTRED mostFrames frames h
 
 pub whole-fixed : (fixed : List Float) → badFixed fixed ≡ false → (length fixed ≡ 0) ⊎ (length fixed ≡ CENTRED)
-unfolding badFixed
-whole-fixed fixed h = go (both-none _ _ h)
-  where
-    go : (eqb (length fixed) 0 ≡ true) ⊎ (eqb (length fixed) CENTRED ≡ true) → (length fixed ≡ 0) ⊎ (length fixed ≡ CENTRED)
-    go (inl e) = inl (eqb-true (length fixed) 0 e)
-    go (inr e) = inr (eqb-true (length fixed) CENTRED e)
+whole-fixed fixed h = at-most-one CENTRED fixed h
+
+pub fixed-good : (fixed : List Float) → (length fixed ≡ 0) ⊎ (length fixed ≡ CENTRED) → badFixed fixed ≡ false
+fixed-good fixed (inl e) = good-records CENTRED 1 fixed (rw e) (omega arith)
+fixed-good fixed (inr e) = good-records CENTRED 1 fixed (rw e) (omega arith)
 
 pub shaped : (frames fixed actions : List Float) → badFrames frames ≡ false → badFixed fixed ≡ false → badActions frames actions ≡ false → Shaped frames fixed actions
 unfolding badActions

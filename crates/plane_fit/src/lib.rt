@@ -12,7 +12,7 @@ ghost use Rattle.derivative.specs.Action.{actionSize};
 ghost use Rattle.point_moments.specs.Scatter.{CENTRED};
 ghost use Rattle.plane_fit.specs.Records.{recordOf};
 ghost use Rattle.plane_fit.specs.Fit.{Shaped, centre, turned, spread, fitMean, scatterAbout, fitList};
-ghost use Rattle.plane_fit.specs.Calls.{badFrames, badFixed, badActions, fitRefusal};
+ghost use Rattle.plane_fit.specs.Calls.{badRecords, badFrames, badFixed, badActions, fitRefusal};
 ghost use Rattle.plane_fit.specs.Steps.{withSet, weighed, difference, spreadUpto, meanOf};
 use point_moments::scatter::CENTRED;
 use point_moments::scatter::Centred;
@@ -183,24 +183,28 @@ fn fit_scatter(frames: &[f64], fixed: &[f64], actions: &[f64], mean: [f64; 3]) -
     s.with_part(spread(t, w, f.count, mean))
 }
 
-// 3: the list is not whole frames, or has more than 256.
+// 3: the list is not whole records of so many numbers, or has more records than it may.
+pub fn bad_records(list: &[f64], size: usize, most: usize) -> bool
+    requires { ⌜ 0 < size ⌝ }
+    ensures { λ r. ⌜ r ≡ badRecords size most (now (list .entry)) ⌝ }
+{
+    if list.len() % size != 0 {
+        return true;
+    }
+    list.len() / size > most
+}
+
 pub fn bad_frames(frames: &[f64]) -> bool
     ensures { λ r. ⌜ r ≡ badFrames (now (frames .entry)) ⌝ }
 {
-    if frames.len() % CENTRED != 0 {
-        return true;
-    }
-    frames.len() / CENTRED > MOST_FRAMES
+    bad_records(frames, CENTRED, MOST_FRAMES)
 }
 
-// 3: a fixed set is nothing or one frame.
+// A fixed set is nothing or one frame.
 pub fn bad_fixed(fixed: &[f64]) -> bool
     ensures { λ r. ⌜ r ≡ badFixed (now (fixed .entry)) ⌝ }
 {
-    if fixed.len() == 0 {
-        return false;
-    }
-    fixed.len() != CENTRED
+    bad_records(fixed, CENTRED, 1)
 }
 
 // 8: the actions are not one for each frame. Divided and not multiplied, so that no length overflows.
