@@ -24,6 +24,17 @@ extern "C" {
 #define MAGHNELT_MATCH 8          /* point (3), normal (3), offset, sigma */
 #define MAGHNELT_PLANE 4          /* normal (3), offset */
 
+/* The most that one call takes. */
+#define MAGHNELT_MAX_FRAMES 256   /* frames of one plane */
+#define MAGHNELT_MAX_WORDS 1024   /* words of a block map or of an index list */
+
+/*
+ * A word of a block map says where a frame goes: below this one it is an offset, the row at which the frame's segment
+ * begins; this one is a frame that goes nowhere, as is a frame beyond the map's end. No word is above it. In an index list
+ * the offset is a place in a map.
+ */
+#define MAGHNELT_UNMAPPED UINT32_C(0x40000000)
+
 /* ---- leaves ---- */
 
 /*
@@ -89,6 +100,27 @@ uint32_t maghnelt_point_to_plane_sigma(const double *plane, size_t plane_length,
                                        size_t plane_covariance_length, const double *point_covariance,
                                        size_t point_covariance_length, const double *world, size_t world_length,
                                        const double *d_world_d_point, size_t d_world_d_point_length, double *sigma);
+
+/* ---- block maps: at most MAGHNELT_MAX_WORDS words ---- */
+
+/*
+ * The map that an index list makes of a map: out[i] is the map's word at the place that list[i] names, and
+ * MAGHNELT_UNMAPPED where list[i] is that or names a place past the map's end. out is as long as list. Refused by 3, then
+ * by 9 if a word of the map or of the list is above MAGHNELT_UNMAPPED.
+ */
+uint32_t maghnelt_remap(const uint32_t *map, size_t map_length, const uint32_t *list, size_t list_length, uint32_t *out,
+                        size_t out_length);
+
+/* ---- frames of one plane: 1 to MAGHNELT_MAX_FRAMES centred frames, and a fixed set of one or none (length 0) ---- */
+
+/*
+ * The mean (3) and the scatter about it (9, by columns; neither divided nor made symmetric) of what a plane is fitted to,
+ * for the decomposition that the host makes of the scatter: the frames, each carried by its action, and then the fixed set
+ * as it comes. out has 12 numbers, actions MAGHNELT_ACTION for each frame. Refused by 1, 2, 3, 8.
+ */
+uint32_t maghnelt_frames_fit(uint32_t dof, const double *frames, size_t frames_length, const double *fixed,
+                             size_t fixed_length, const double *actions, size_t actions_length, double *out,
+                             size_t out_length);
 
 #ifdef __cplusplus
 }

@@ -99,10 +99,45 @@ static void planes(void) {
            "a variance of 0 is refused");
 }
 
+static void block_maps(void) {
+    const uint32_t map[] = {10, MAGHNELT_UNMAPPED, 30};
+    const uint32_t list[] = {2, MAGHNELT_UNMAPPED, 0, 3, 1};
+    const uint32_t bad[] = {MAGHNELT_UNMAPPED + 1};
+    uint32_t out[5] = {7, 7, 7, 7, 7};
+
+    expect(maghnelt_remap(SLICE(map), SLICE(bad), out, 1) == 9 && out[0] == 7, "a bad word is refused");
+    expect(maghnelt_remap(SLICE(map), SLICE(list), out, 4) == 3 && out[0] == 7, "a short output is refused");
+    expect(maghnelt_remap(SLICE(map), SLICE(list), SLICE(out)) == 0, "an index list is accepted");
+    expect(out[0] == 30 && out[1] == MAGHNELT_UNMAPPED && out[2] == 10, "words that are found");
+    expect(out[3] == MAGHNELT_UNMAPPED && out[4] == MAGHNELT_UNMAPPED, "words that go nowhere");
+}
+
+/* One frame of four points, lifted by five metres, and a fixed point. */
+static void fit(void) {
+    const double frames[MAGHNELT_CENTRED] = {4, 1, 1, 0, 4, 0, 0, 0, 4, 0, 0, 0, 0};
+    const double fixed[MAGHNELT_CENTRED] = {1, 1, 1, 10, 0, 0, 0, 0, 0, 0, 0, 0, 0};
+    double actions[MAGHNELT_ACTION] = {1, 0, 0, 0, 1, 0, 0, 0, 1, 0, 0, 5};
+    double out[12] = {7};
+
+    expect(maghnelt_frames_fit(10, SLICE(frames), SLICE(fixed), SLICE(actions), SLICE(out)) == 1, "dof 10 is refused");
+    expect(maghnelt_frames_fit(6, frames, 0, SLICE(fixed), SLICE(actions), SLICE(out)) == 2, "no frame is refused");
+    expect(maghnelt_frames_fit(6, SLICE(frames), fixed, 1, SLICE(actions), SLICE(out)) == 3, "a short set is refused");
+    expect(maghnelt_frames_fit(6, SLICE(frames), fixed, 0, actions, 1, SLICE(out)) == 8 && out[0] == 7,
+           "a short action is refused, and the output is left");
+    expect(maghnelt_frames_fit(6, SLICE(frames), fixed, 0, SLICE(actions), SLICE(out)) == 0 && out[2] == 5 && out[3] == 4 &&
+               out[11] == 0,
+           "a frame that is lifted by five");
+    expect(maghnelt_frames_fit(6, SLICE(frames), SLICE(fixed), SLICE(actions), SLICE(out)) == 0 && out[2] == 6 &&
+               out[11] == 20,
+           "the same with a fixed point");
+}
+
 int main(void) {
     leaves();
     moments();
     no_answer();
     planes();
+    block_maps();
+    fit();
     return failures != 0;
 }

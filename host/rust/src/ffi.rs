@@ -72,4 +72,25 @@ extern "C" {
         d_world_d_point_length: usize,
         sigma: *mut f64,
     ) -> u32;
+
+    pub(crate) fn maghnelt_remap(
+        map: *const u32,
+        map_length: usize,
+        list: *const u32,
+        list_length: usize,
+        out: *mut u32,
+        out_length: usize,
+    ) -> u32;
+
+    pub(crate) fn maghnelt_frames_fit(
+        dof: u32,
+        frames: *const f64,
+        frames_length: usize,
+        fixed: *const f64,
+        fixed_length: usize,
+        actions: *const f64,
+        actions_length: usize,
+        out: *mut f64,
+        out_length: usize,
+    ) -> u32;
 }

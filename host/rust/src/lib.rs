@@ -11,6 +11,8 @@
 //! | [`Moments::mean_and_scatter`], [`Moments::plane`] | mean and scatter of the points, and the plane that fits them |
 //! | [`Plane::new`] | a plane with a unit normal |
 //! | [`point_to_plane_sigma`] | the standard deviation of a point's distance from a plane |
+//! | [`BlockMap`], [`BlockMap::remapped`] | where the frames of a factor go in the Hessian |
+//! | [`frames_fit`] | the mean and the scatter that a plane is fitted to over several frames |
 //! | [`sqrt`] | the correctly rounded square root, IEEE 754's squareRoot |
 //! | [`total_order_key`] | an integer that orders bit patterns as IEEE 754's totalOrder |
 //!
@@ -38,7 +40,9 @@
 
 #![warn(missing_docs)]
 
+mod block_map;
 mod ffi;
+mod frames;
 mod moments;
 mod plane;
 mod refusal;
@@ -47,9 +51,13 @@ pub mod slices;
 mod square_root;
 mod total_order;
 
+pub use block_map::{BlockMap, UNMAPPED};
+pub use frames::{frames_fit, Action, Centred, FitSums};
 pub use moments::{Decomposition, FittedPlane, MeanAndScatter, Moments};
 pub use plane::{point_to_plane_sigma, Plane};
 pub use refusal::Refusal;
-pub use sizes::{ACTION, CENTRED, DECOMPOSITION, MATCH, MAX_POINTS, MOMENTS, PLANE};
+pub use sizes::{
+    ACTION, CENTRED, DECOMPOSITION, MATCH, MAX_FRAMES, MAX_POINTS, MAX_WORDS, MOMENTS, PLANE,
+};
 pub use square_root::sqrt;
 pub use total_order::total_order_key;

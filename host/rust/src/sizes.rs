@@ -15,3 +15,7 @@ pub const PLANE: usize = 4;
 
 /// The most points that one call takes.
 pub const MAX_POINTS: usize = 65_536;
+/// The most frames of one plane.
+pub const MAX_FRAMES: usize = 256;
+/// The most words of a block map or of an index list.
+pub const MAX_WORDS: usize = 1024;

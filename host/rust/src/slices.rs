@@ -1,6 +1,6 @@
 //! The calls as C makes them, on slices of any length: for lists whose lengths are known only when the program runs.
-//! [`Moments`](crate::Moments), [`Plane`](crate::Plane) and [`point_to_plane_sigma`](crate::point_to_plane_sigma) stand
-//! above these functions, and their types give every slice the length that it must have.
+//! The types and functions at the root of the crate stand above these functions, and give every slice the length that it
+//! must have.
 //!
 //! A call that is refused has written nothing, neither to a slice nor to a single number. Matrices are handed over column
 //! after column. Where a call may find nothing, `found` becomes 1 or 0, and with 0 the output is left as it was.
@@ -197,6 +197,61 @@ pub fn point_to_plane_sigma(
             d_world_d_point.as_ptr(),
             d_world_d_point.len(),
             sigma,
+        )
+    })
+}
+
+/// Writes to `out` the map that an index list makes of a block map: the map's word at the place that a word of `list` names,
+/// and [`UNMAPPED`](crate::UNMAPPED) where it names none or one past the map's end.
+///
+/// # Errors
+///
+/// [`Refusal::LENGTH`]: `map` or `list` has more than [`MAX_WORDS`](crate::MAX_WORDS) words, or `out` another length than
+/// `list`; then [`Refusal::MAP_WORD`] for a word of the two above [`UNMAPPED`](crate::UNMAPPED).
+#[inline]
+pub fn remap(map: &[u32], list: &[u32], out: &mut [u32]) -> Result<(), Refusal> {
+    // SAFETY: as said at the head of this file.
+    Refusal::of_answer(unsafe {
+        ffi::maghnelt_remap(
+            map.as_ptr(),
+            map.len(),
+            list.as_ptr(),
+            list.len(),
+            out.as_mut_ptr(),
+            out.len(),
+        )
+    })
+}
+
+/// Writes mean (3) and scatter (9) of what a plane is fitted to to `out`: the centred `frames`, each carried by its action,
+/// and then the `fixed` set, which is empty where there is none.
+///
+/// # Errors
+///
+/// [`Refusal::DOF`]; [`Refusal::EMPTY_LIST`]: there is no frame; [`Refusal::LENGTH`]: `frames` is not whole frames of
+/// [`CENTRED`](crate::CENTRED) numbers or more than [`MAX_FRAMES`](crate::MAX_FRAMES), `fixed` is neither empty nor one such
+/// frame, or `out` has not 12 numbers; [`Refusal::ACTIONS`]: the actions are not [`ACTION`](crate::ACTION) numbers for each
+/// frame.
+#[inline]
+pub fn frames_fit(
+    dof: u32,
+    frames: &[f64],
+    fixed: &[f64],
+    actions: &[f64],
+    out: &mut [f64],
+) -> Result<(), Refusal> {
+    // SAFETY: as said at the head of this file.
+    Refusal::of_answer(unsafe {
+        ffi::maghnelt_frames_fit(
+            dof,
+            frames.as_ptr(),
+            frames.len(),
+            fixed.as_ptr(),
+            fixed.len(),
+            actions.as_ptr(),
+            actions.len(),
+            out.as_mut_ptr(),
+            out.len(),
         )
     })
 }

@@ -25,6 +25,8 @@ fn sizes_are_those_of_the_header() {
             ("DECOMPOSITION", maghnelt::DECOMPOSITION),
             ("MATCH", maghnelt::MATCH),
             ("PLANE", maghnelt::PLANE),
+            ("MAX_FRAMES", maghnelt::MAX_FRAMES),
+            ("MAX_WORDS", maghnelt::MAX_WORDS),
         ]
     );
 }

@@ -1,6 +1,9 @@
 //! Slices of wrong lengths are refused, and everything that was lent is as it was, bit for bit.
 
-use maghnelt::{slices, Refusal, DECOMPOSITION, MAX_POINTS, MOMENTS, PLANE};
+use maghnelt::{
+    slices, Refusal, ACTION, CENTRED, DECOMPOSITION, MAX_FRAMES, MAX_POINTS, MAX_WORDS, MOMENTS,
+    PLANE, UNMAPPED,
+};
 
 /// Signalling and quiet NaNs with payloads, and numbers: what a write would hardly leave in place.
 fn patterns(length: usize) -> Vec<f64> {
@@ -39,10 +42,18 @@ fn wrong<const N: usize>(right: [usize; N]) -> Vec<[usize; N]> {
     all
 }
 
-/// Lends an output of that length and sees that the call refuses it and leaves it.
+/// Lends an output of that length and sees that the call refuses it for its length and leaves it.
 fn refused(length: usize, call: impl FnOnce(&mut [f64]) -> Result<(), Refusal>) {
+    refused_by(Refusal::LENGTH, length, call);
+}
+
+fn refused_by(
+    reason: Refusal,
+    length: usize,
+    call: impl FnOnce(&mut [f64]) -> Result<(), Refusal>,
+) {
     let mut out = patterns(length);
-    assert_eq!(call(&mut out), Err(Refusal::LENGTH));
+    assert_eq!(call(&mut out), Err(reason));
     assert_eq!(bits(&out), bits(&patterns(length)));
 }
 
@@ -159,4 +170,67 @@ fn sigma() {
     }
     assert_eq!(answer(right, 0.0), Err(Refusal::VARIANCE));
     assert_eq!(sigma.to_bits(), before.to_bits());
+}
+
+#[test]
+fn remap() {
+    let good = vec![0; MAX_WORDS + 1];
+    let mut bad = good.clone();
+    bad[0] = UNMAPPED + 1;
+    let refused = |reason: Refusal, map: &[u32], list: &[u32], length: usize| {
+        let mut out = vec![0xA5A5_A5A5; length];
+        assert_eq!(slices::remap(map, list, &mut out), Err(reason));
+        assert!(out.iter().all(|&word| word == 0xA5A5_A5A5));
+    };
+    // The lengths are tested before the words.
+    for words in [&good, &bad] {
+        refused(Refusal::LENGTH, words, &words[..3], 3);
+        refused(Refusal::LENGTH, &words[..3], words, MAX_WORDS + 1);
+        for length in [0, 2, 4] {
+            refused(Refusal::LENGTH, &words[..3], &words[..3], length);
+        }
+    }
+    refused(Refusal::MAP_WORD, &bad[..1], &[], 0);
+    refused(Refusal::MAP_WORD, &[], &bad[..1], 1);
+    let mut out = vec![7; MAX_WORDS];
+    assert_eq!(slices::remap(&[], &good[..MAX_WORDS], &mut out), Ok(()));
+    assert_eq!(out, [UNMAPPED; MAX_WORDS]);
+}
+
+#[test]
+fn fit() {
+    let frames = vec![1.0; CENTRED * (MAX_FRAMES + 1)];
+    let actions = vec![1.0; ACTION * (MAX_FRAMES + 1)];
+    let fit = |dof: u32, lengths: [usize; 3], out: &mut [f64]| {
+        let [of_frames, fixed, of_actions] = lengths;
+        slices::frames_fit(
+            dof,
+            &frames[..of_frames],
+            &frames[..fixed],
+            &actions[..of_actions],
+            out,
+        )
+    };
+    let two = [2 * CENTRED, CENTRED, 2 * ACTION];
+    // Each reason is tested with those after it.
+    for dof in [10, u32::MAX] {
+        refused_by(Refusal::DOF, 11, |out| fit(dof, [0, 1, 1], out));
+    }
+    refused_by(Refusal::EMPTY_LIST, 11, |out| fit(9, [0, 1, 1], out));
+    for of_frames in [1, CENTRED - 1, CENTRED + 1, CENTRED * (MAX_FRAMES + 1)] {
+        refused(12, |out| fit(9, [of_frames, 0, 1], out));
+    }
+    for fixed in [1, CENTRED - 1, CENTRED + 1, 2 * CENTRED] {
+        refused(12, |out| fit(9, [CENTRED, fixed, 1], out));
+    }
+    for length in [0, 11, 13] {
+        refused(length, |out| fit(9, [CENTRED, 0, 1], out));
+    }
+    for of_actions in [0, ACTION, 2 * ACTION - 1, 2 * ACTION + 1, 3 * ACTION] {
+        refused_by(Refusal::ACTIONS, 12, |out| {
+            fit(9, [two[0], two[1], of_actions], out)
+        });
+    }
+    assert_eq!(fit(9, two, &mut patterns(12)), Ok(()));
+    assert_eq!(fit(0, [CENTRED, 0, ACTION], &mut patterns(12)), Ok(()));
 }
