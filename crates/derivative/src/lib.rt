@@ -6,7 +6,7 @@ ghost use lib.ListN.{length, getD};
 ghost use lib.Ieee.{nan};
 ghost use Rattle.sums.specs.Fill.{padded};
 ghost use Rattle.derivative.specs.Action.{actionSize};
-ghost use Rattle.derivative.specs.Derivative.{normalAt, normalRow, combined, shifted, rows, dAlong};
+ghost use Rattle.derivative.specs.Derivative.{normalAt, normalRow, combined, shifted, rows, dAn, dAlong};
 
 // Where an action of 120 numbers has `origin`, and `axes` for the coordinates x, y and z of the point.
 pub const ACTION: usize = 120;
@@ -76,8 +76,16 @@ pub fn shifted_row(
     row
 }
 
-// Entry c of the derivative of nᵀ(A·p + b).
-fn along_entry(x: &[f64], n: [f64; 3], p: [f64; 3], c: usize) -> f64
+// D(k,c), the derivative of entry k of Aᵀn by the state's coordinate c.
+pub fn normal_change(x: &[f64], n: [f64; 3], k: usize, c: usize) -> f64
+    requires { ⌜ (k < 3) × (c < 9) × (actionSize ≤ length (now x)) ⌝ }
+    ensures { λ r. ⌜ r ≡ dAn (now (x .entry)) n k c ⌝ }
+{
+    normal_entry(x, AXIS_X + 27 * k + 3 * c, n)
+}
+
+// m_c, the derivative of nᵀ(A·p + b) by the state's coordinate c.
+pub fn along_entry(x: &[f64], n: [f64; 3], p: [f64; 3], c: usize) -> f64
     requires { ⌜ (c < 9) × (actionSize ≤ length (now x)) ⌝ }
     ensures { λ r. ⌜ r ≡ dAlong (now (x .entry)) n p c ⌝ }
 {

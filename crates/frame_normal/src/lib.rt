@@ -9,7 +9,7 @@ pub fn normal_in(x: &[f64], n: [f64; 3]) -> [f64; 3]
     requires { ⌜ length (now x) ≡ actionSize ⌝ }
     ensures { λ r. ⌜ r ≡ normalIn (now (x .entry)) n ⌝ }
 {
-    linear::mat_vec(linear::transposed(lists::nine(x, 0)), n)
+    linear::mat_vec(linear::transposed(action::matrix(x)), n)
 }
 
 // nᵀw + offset, the distance of w from the plane.

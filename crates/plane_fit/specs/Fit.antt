@@ -9,16 +9,17 @@ use lib.ListN.{length}
 use lib.Ieee.{Float, binary64, div, sub}
 use Rattle.sums.specs.Sum.{_⊕_, _⊗_, sumTo, sumFromZero, tab, grid, at}
 use Rattle.lists.specs.Part.{_!_}
-use Rattle.derivative.specs.Action.{actionSize, actionMatrix, actionShift}
+use Rattle.derivative.specs.Action.{actionSize, actionMatrix}
+use Rattle.action.specs.Carried.{carried}
 use Rattle.point_moments.specs.declared.scatter.Centred.{Centred}
 use Rattle.point_moments.specs.Scatter.{CENTRED, centredOf}
 use Rattle.plane_fit.specs.Records.{recordOf}
 
 -- ---- one set
 
--- w_r = (Σ_c A(r,c)·mean_c) + b_r, the frame's mean carried into the site by the action x
+-- w = A·mean + b, the frame's mean carried into the site by the action x
 abbrev pub centre : List Float → Centred → List Float
-centre x f = tab 3 (λ r. sumTo 3 (λ c. actionMatrix x r c ⊗ f .mean ! c) ⊕ actionShift x r)
+centre x f = carried x (f .mean)
 
 -- A·S·Aᵀ, whose entry is Σ_k (Σ_l A(r,l)·S(l,k))·A(c,k): the frame's scatter turned by the action
 abbrev pub turned : List Float → Centred → List Float

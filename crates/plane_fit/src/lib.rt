@@ -52,8 +52,7 @@ pub fn centre(x: &[f64], f: Centred) -> [f64; 3]
     ensures { λ r. ⌜ r ≡ centre (now (x .entry)) f ⌝ }
 {
     let mean = f.mean;
-    let turned = linear::mat_vec(lists::nine(x, 0), mean);
-    linear::plus3(turned, lists::three(x, 9))
+    action::carried(x, mean)
 }
 
 // The counts of some sets, and the sum of their means times their counts.
@@ -120,7 +119,7 @@ fn spread_of(x: &[f64], f: Centred, mean: [f64; 3]) -> [f64; 9]
     ensures { λ r. ⌜ r ≡ grid 3 3 (spread (turned (now (x .entry)) f) (centre (now (x .entry)) f) (f .count) mean) ⌝ }
 {
     let s = f.scatter;
-    let t = linear::congruent(lists::nine(x, 0), s);
+    let t = linear::congruent(action::matrix(x), s);
     spread(t, centre(x, f), f.count, mean)
 }
 
