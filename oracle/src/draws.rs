@@ -192,7 +192,7 @@ pub fn record_of(wall: &Wall, generator: &mut Generator) -> [f64; MOMENTS] {
 }
 
 /// Counts at which an answer changes, and some beside them.
-const COUNTS: [f64; 14] = [
+pub const COUNTS: [f64; 14] = [
     0.0,
     -0.0,
     5e-324,

@@ -2,6 +2,7 @@
 
 #![warn(missing_docs)]
 
+pub mod called;
 pub mod draws;
 pub mod generator;
 pub mod groups;
@@ -10,3 +11,4 @@ pub mod model;
 pub mod patterns;
 pub mod probe;
 pub mod report;
+pub mod scenes;

@@ -2,7 +2,8 @@
 
 use oracle::generator::Generator;
 use oracle::groups::{
-    moments, moments_plane, number, order, plane_new, root_steps, scatter, sigma, sqrt,
+    frames_fit, moments, moments_plane, number, order, plane_new, remap, root_steps, scatter,
+    sigma, sqrt,
 };
 use oracle::report::Report;
 use std::process::ExitCode;
@@ -58,6 +59,16 @@ const GROUPS: &[Group] = &[
         name: "sigma",
         about: "the deviation of a point from a plane against a model",
         run: sigma::run,
+    },
+    Group {
+        name: "remap",
+        about: "maps read through index lists against a model",
+        run: remap::run,
+    },
+    Group {
+        name: "frames_fit",
+        about: "mean and scatter over the frames of a plane against a model",
+        run: frames_fit::run,
     },
 ];
 
@@ -131,12 +142,12 @@ fn usage() -> String {
     let mut text = format!(
         "usage: oracle [GROUP ...] [--count N] [--seed N]\n\n\
          Compares the proved library with plain Rust: the groups that are named, or all.\n\n\
-         --count N   about so many cases a group (default {DEFAULT_COUNT}); the fixed ones always run\n\
+         --count N   about so many cases a group, a frame counting as one (default {DEFAULT_COUNT}); the fixed ones always run\n\
          --seed N    the seed of the random cases (default {DEFAULT_SEED})\n\n\
          Exit status: 0 no mismatch, 1 a mismatch, 2 bad usage.\n\ngroups:"
     );
     for group in GROUPS {
-        text.push_str(&format!("\n  {:13} {}", group.name, group.about));
+        text.push_str(&format!("\n  {:20} {}", group.name, group.about));
     }
     text
 }

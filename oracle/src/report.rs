@@ -44,7 +44,7 @@ impl Report {
     /// Prints the group's line.
     pub fn print(&self) {
         println!(
-            "{:13} {:>10} cases, {} mismatches",
+            "{:20} {:>10} cases, {} mismatches",
             self.group, self.cases, self.mismatches
         );
     }

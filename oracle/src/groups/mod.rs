@@ -3,11 +3,13 @@
 //! A group's `run` compares the library. Its `compare` takes the functions to compare, so that the group's tests can
 //! show which wrong functions it finds.
 
+pub mod frames_fit;
 pub mod moments;
 pub mod moments_plane;
 pub mod number;
 pub mod order;
 pub mod plane_new;
+pub mod remap;
 pub mod root_steps;
 pub mod scatter;
 pub mod sigma;

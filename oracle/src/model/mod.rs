@@ -3,15 +3,46 @@
 //!
 //! A matrix is read as `m[row][column]`; where it is stored, its columns follow each other.
 
+pub mod blocks;
+pub mod frames;
 pub mod moments;
 pub mod plane;
 
+/// The reason for a dof above 9.
+pub const DOF: u32 = 1;
+/// The reason for an empty list of frames or matches.
+pub const EMPTY_LIST: u32 = 2;
 /// The reason for a slice of a wrong length.
 pub const LENGTH: u32 = 3;
+/// The reason for actions of a wrong length.
+pub const ACTIONS: u32 = 8;
+/// The reason for a bad word in a block map.
+pub const MAP_WORD: u32 = 9;
 /// The reason for a normal without a usable length.
 pub const NORMAL: u32 = 11;
 /// The reason for a variance that is not finite and positive.
 pub const VARIANCE: u32 = 12;
+
+/// The most columns of an action's derivatives.
+pub const MAX_DOF: u32 = 9;
+
+/// The pattern of every NaN that the model works out, which no case has in it.
+pub const WORKED_OUT_NAN: u64 = 0x7FFC_6D61_6768_6E65;
+
+/// A number as the model writes it.
+pub fn written(x: f64) -> f64 {
+    if x.is_nan() {
+        f64::from_bits(WORKED_OUT_NAN)
+    } else {
+        x
+    }
+}
+
+/// The number of the first reason that applies, or 0 where none does.
+pub fn first(reasons: &[(u32, bool)]) -> u32 {
+    let reason = reasons.iter().find(|(_, applies)| *applies);
+    reason.map_or(0, |(number, _)| *number)
+}
 
 /// Three numbers.
 pub type Vector = [f64; 3];
@@ -21,6 +52,11 @@ pub type Matrix<const N: usize> = [[f64; N]; N];
 /// A sum in rising index that starts from its first term; +0 where there is none.
 pub fn sum(terms: impl Iterator<Item = f64>) -> f64 {
     terms.reduce(|sum, term| sum + term).unwrap_or(0.0)
+}
+
+/// A sum in rising index that starts from +0.
+pub fn sum_from_zero(terms: impl Iterator<Item = f64>) -> f64 {
+    terms.fold(0.0, |sum, term| sum + term)
 }
 
 /// The sum of products of two lists of numbers.

@@ -1,0 +1,250 @@
+//! What the calls on frames are tried on: a wall seen from several poses, and numbers that lead astray.
+
+use crate::draws::{self, fill, numbers, old, record_of, within, Pose, Wall, COUNTS};
+use crate::generator::Generator;
+use crate::model::frames::centred;
+use crate::model::moments::{transformed, Moments};
+use crate::model::{matrix, vector, Matrix, Vector, MAX_DOF};
+use maghnelt::{ACTION, CENTRED, MAX_FRAMES};
+
+/// Frames, a fixed set and actions, as the calls after the build take them.
+#[derive(Clone)]
+pub struct Scene {
+    /// The number of parameters.
+    pub dof: u32,
+    /// The centred frames.
+    pub frames: Vec<f64>,
+    /// The fixed set, or nothing.
+    pub fixed: Vec<f64>,
+    /// An action a frame.
+    pub actions: Vec<f64>,
+}
+
+impl Scene {
+    /// So many frames of a wall, or of any numbers.
+    pub fn of(frames: usize, generator: &mut Generator) -> Scene {
+        let dof = generator.below(1 + u64::from(MAX_DOF)) as u32;
+        let mut scene = if generator.below(2) == 0 {
+            wall_seen(dof, frames, generator)
+        } else {
+            any_numbers(dof, frames, generator)
+        };
+        // Now and then one of the slices is special, the others being as they were.
+        if generator.below(4) == 0 {
+            let slices = [&mut scene.frames, &mut scene.fixed, &mut scene.actions];
+            let [frames, fixed, actions] = slices;
+            fill(
+                [frames, fixed, actions][generator.below(3) as usize],
+                generator,
+            );
+        }
+        scene
+    }
+
+    /// The number of frames.
+    pub fn len(&self) -> usize {
+        self.frames.len() / CENTRED
+    }
+
+    /// Whether there are none.
+    pub fn is_empty(&self) -> bool {
+        self.frames.is_empty()
+    }
+}
+
+/// How many frames a case has: mostly few, and now and then up to as many as allowed.
+pub fn some_frames(generator: &mut Generator) -> usize {
+    let (from, to) = match generator.below(32) {
+        0..=19 => (1, 4),
+        20..=28 => (5, 12),
+        29..=30 => (13, 42),
+        _ => (43, MAX_FRAMES as i64),
+    };
+    generator.between(from, to) as usize
+}
+
+/// A wall in the site as several poses see it, with a fixed set of its own points in half the cases.
+fn wall_seen(dof: u32, frames: usize, generator: &mut Generator) -> Scene {
+    let wall = Wall::random(generator);
+    let poses: Vec<Pose> = (0..frames).map(|_| Pose::random(generator)).collect();
+    let frames = poses
+        .iter()
+        .flat_map(|pose| centred_record(seen_from(pose, &wall, generator)))
+        .collect();
+    let fixed = Moments::read(&record_of(&wall, generator));
+    Scene {
+        dof,
+        frames,
+        fixed: match generator.below(2) {
+            0 => Vec::new(),
+            _ => centred_record(fixed).to_vec(),
+        },
+        actions: poses
+            .iter()
+            .flat_map(|pose| action_of(pose, dof, generator))
+            .collect(),
+    }
+}
+
+/// The moments of points of a wall in the site, as a pose sees them.
+pub fn seen_from(pose: &Pose, wall: &Wall, generator: &mut Generator) -> Moments {
+    // The pose takes p to R·p + t, so the frame saw Rᵀ·p − Rᵀ·t.
+    let back = matrix(|r, c| pose.rotation[c][r]);
+    let shift = vector(|r| -(0..3).map(|k| back[r][k] * pose.shift[k]).sum::<f64>());
+    transformed(Moments::read(&record_of(wall, generator)), back, shift)
+}
+
+fn centred_record(moments: Moments) -> [f64; CENTRED] {
+    let mut record = [0.0; CENTRED];
+    centred(moments)
+        .expect("a wall has points")
+        .write(&mut record);
+    record
+}
+
+/// The action of a pose with its derivatives by a shift, a turn, a scale and nothing. From the dof on its columns are as they
+/// come or anything.
+pub fn action_of(pose: &Pose, dof: u32, generator: &mut Generator) -> Vec<f64> {
+    let column = |c: usize| -> Vector { vector(|r| pose.rotation[r][c]) };
+    let mut action = vec![0.0; ACTION];
+    action[..9].copy_from_slice(&draws::stored(pose.rotation));
+    action[9..12].copy_from_slice(&pose.shift);
+    for c in 0..3 {
+        action[12 + 3 * c..][..3].copy_from_slice(&column(c));
+    }
+    for k in 0..3 {
+        let axis = &mut action[39 + 27 * k..][..27];
+        // −R·(e_k × e_c): with e_k × e_c = e_d the column d turned about, and zero for k = c.
+        let (next, last) = ((k + 1) % 3, (k + 2) % 3);
+        axis[3 * (3 + next)..][..3].copy_from_slice(&column(last).map(|x| -x));
+        axis[3 * (3 + last)..][..3].copy_from_slice(&column(next));
+        axis[18..21].copy_from_slice(&column(k));
+    }
+    if generator.below(2) == 0 {
+        let past = 3 * (MAX_DOF - dof) as usize;
+        for matrix in [12, 39, 66, 93] {
+            let end = matrix + 3 * MAX_DOF as usize;
+            action[end - past..end].copy_from_slice(&old(past, generator));
+        }
+    }
+    action
+}
+
+/// Slices of any numbers, each record by itself or all of one size; a count is often one at which something turns.
+fn any_numbers(dof: u32, frames: usize, generator: &mut Generator) -> Scene {
+    let records = |record: usize, generator: &mut Generator| {
+        let mut list = vec![0.0; record * frames];
+        let part = match generator.below(2) {
+            0 => record,
+            _ => list.len(),
+        };
+        list.chunks_mut(part).for_each(|part| fill(part, generator));
+        list
+    };
+    let mut scene = Scene {
+        dof,
+        frames: records(CENTRED, generator),
+        fixed: numbers::<CENTRED>(generator).to_vec(),
+        actions: records(ACTION, generator),
+    };
+    if generator.below(2) == 0 {
+        for count in scene.frames.iter_mut().step_by(CENTRED) {
+            *count = some_count(generator);
+        }
+    }
+    match generator.below(4) {
+        0 | 1 => scene.fixed.clear(),
+        2 => scene.fixed[0] = some_count(generator),
+        _ => {}
+    }
+    scene
+}
+
+/// A number of points, or now and then one at which something turns.
+fn some_count(generator: &mut Generator) -> f64 {
+    match generator.below(16) {
+        0 => generator.pick(&COUNTS),
+        1 => within(0.0, 5.0, generator),
+        _ => (1 + generator.below(100)) as f64,
+    }
+}
+
+/// The eigenvalues of a symmetric matrix and their vectors, by Jacobi's rotations: decompositions as a host makes them.
+pub fn jacobi(mut m: Matrix<3>) -> (Vector, [Vector; 3]) {
+    let mut vectors: [Vector; 3] = matrix(|r, c| f64::from(u8::from(r == c)));
+    for _ in 0..8 {
+        for (p, q) in [(0, 1), (0, 2), (1, 2)] {
+            if m[p][q] == 0.0 {
+                continue;
+            }
+            let theta = (m[q][q] - m[p][p]) / (2.0 * m[p][q]);
+            let tan = theta.signum() / (theta.abs() + (theta * theta + 1.0).sqrt());
+            let cos = 1.0 / (tan * tan + 1.0).sqrt();
+            let sin = tan * cos;
+            let rotated = |x: f64, y: f64| (cos * x - sin * y, sin * x + cos * y);
+            for row in &mut m {
+                (row[p], row[q]) = rotated(row[p], row[q]);
+            }
+            for c in 0..3 {
+                (m[p][c], m[q][c]) = rotated(m[p][c], m[q][c]);
+                (vectors[p][c], vectors[q][c]) = rotated(vectors[p][c], vectors[q][c]);
+            }
+        }
+    }
+    (vector(|k| m[k][k]), vectors)
+}
+
+#[cfg(test)]
+mod tests {
+    use super::*;
+    use crate::model::dot;
+    use crate::model::frames::{fit, Sets};
+
+    #[test]
+    fn a_wall_that_is_seen_from_poses_is_flat() {
+        let mut generator = Generator::new(1);
+        for _ in 0..50 {
+            let scene = wall_seen(6, 5, &mut generator);
+            let sets = Sets::read(&scene.frames, &scene.fixed, &scene.actions);
+            let points: f64 = sets.frames.iter().map(|(frame, _)| frame.count).sum();
+            let (_, scatter) = fit(&sets);
+            let (values, _) = jacobi(scatter);
+            let least = values.iter().copied().fold(f64::INFINITY, f64::min);
+            assert!(least / points < 0.03, "{values:?}");
+        }
+    }
+
+    #[test]
+    fn rotations_diagonalize() {
+        let mut generator = Generator::new(1);
+        for _ in 0..100 {
+            let m: Matrix<3> = draws::covariance(3.0, &mut generator);
+            let (values, vectors) = jacobi(m);
+            for k in 0..3 {
+                for r in 0..3 {
+                    let off = dot(m[r], vectors[k]) - values[k] * vectors[k][r];
+                    assert!(off.abs() < 1e-12);
+                }
+            }
+        }
+    }
+
+    #[test]
+    fn cases_are_of_every_length() {
+        let mut generator = Generator::new(1);
+        let drawn: Vec<usize> = (0..2000).map(|_| some_frames(&mut generator)).collect();
+        assert!(drawn.contains(&1) && drawn.iter().all(|f| (1..=MAX_FRAMES).contains(f)));
+        assert!(drawn.iter().any(|&frames| frames > 200));
+    }
+
+    #[test]
+    fn records_are_whole() {
+        let mut generator = Generator::new(1);
+        for frames in [1, 2, 7] {
+            let scene = Scene::of(frames, &mut generator);
+            assert_eq!(scene.len(), frames);
+            assert_eq!(scene.actions.len(), ACTION * frames);
+            assert!(scene.fixed.is_empty() || scene.fixed.len() == CENTRED);
+        }
+    }
+}
