@@ -29,6 +29,11 @@ unfoldable pub fixedCount : List Float → Float
 fixedCount [] = zeroF
 fixedCount (x ∷ l) = momentsOf (x ∷ l) .count
 
+-- "A fixed set of count at or below 0 is dropped after its count has gone into test 5"
+unfoldable pub dropped : List Float → Bool
+dropped [] = false
+dropped (x ∷ l) = le (momentsOf (x ∷ l) .count) zeroF
+
 -- ---- the tests
 
 -- 4: "Some frame's count is at or below 0". A NaN count is not
@@ -55,11 +60,6 @@ unfoldable pub notFinite : List Float → List Float → Bool
 notFinite frames fixed = not (allFinite frames) || not (allFinite fixed)
 
 -- ---- the sets centred
-
--- "A fixed set of count at or below 0 is dropped after its count has gone into test 5"
-unfoldable pub dropped : List Float → Bool
-dropped [] = false
-dropped (x ∷ l) = le (momentsOf (x ∷ l) .count) zeroF
 
 -- one set centred on its mean
 abbrev pub centredSet : List Float → List Float

@@ -33,9 +33,13 @@ badFrames frames = badRecords CENTRED mostFrames frames
 abbrev pub badFixed : List Float → Bool
 badFixed fixed = badRecords CENTRED 1 fixed
 
+-- another list is not so many numbers for each record of a list
+unfoldable pub badCount : ℕ → List Float → ℕ → List Float → Bool
+badCount size list other others = not (eqb (length others) (other * (length list / size)))
+
 -- 8: the actions are not 120 numbers for each frame
-unfoldable pub badActions : List Float → List Float → Bool
-badActions frames actions = not (eqb (length actions) (actionSize * frameCount frames))
+abbrev pub badActions : List Float → List Float → Bool
+badActions frames actions = badCount CENTRED frames actionSize actions
 
 -- asking for the fit's mean and scatter tests 1, 2, 3, 8
 unfoldable pub fitRefusal : ℕ → List Float → List Float → List Float → List Float → ℕ
@@ -82,11 +86,14 @@ pub fixed-good : (fixed : List Float) → (length fixed ≡ 0) ⊎ (length fixed
 fixed-good fixed (inl e) = good-records CENTRED 1 fixed (rw e) (omega arith)
 fixed-good fixed (inr e) = good-records CENTRED 1 fixed (rw e) (omega arith)
 
+pub one-each : (size : ℕ) (list : List Float) (other : ℕ) (others : List Float) → badCount size list other others ≡ false → length others ≡ other * (length list / size)
+unfolding badCount
+one-each size list other others h = eqb-true (length others) (other * (length list / size)) (not-false _ h)
+
 pub shaped : (frames fixed actions : List Float) → badFrames frames ≡ false → badFixed fixed ≡ false → badActions frames actions ≡ false → Shaped frames fixed actions
-unfolding badActions
 shaped frames fixed actions h k l = record {
   count = frameCount frames;
   frames-whole = whole-frames frames h .0;
-  actions-whole = eqb-true (length actions) (actionSize * frameCount frames) (not-false _ l);
+  actions-whole = one-each CENTRED frames actionSize actions l;
   fixed-whole = whole-fixed fixed k;
 }

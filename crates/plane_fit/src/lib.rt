@@ -12,7 +12,7 @@ ghost use Rattle.derivative.specs.Action.{actionSize};
 ghost use Rattle.point_moments.specs.Scatter.{CENTRED};
 ghost use Rattle.plane_fit.specs.Records.{recordOf};
 ghost use Rattle.plane_fit.specs.Fit.{Shaped, centre, turned, spread, fitMean, scatterAbout, fitList};
-ghost use Rattle.plane_fit.specs.Calls.{badRecords, badFrames, badFixed, badActions, fitRefusal};
+ghost use Rattle.plane_fit.specs.Calls.{badRecords, badFrames, badFixed, badCount, badActions, fitRefusal};
 ghost use Rattle.plane_fit.specs.Steps.{withSet, weighed, difference, spreadUpto, meanOf};
 use point_moments::scatter::CENTRED;
 use point_moments::scatter::Centred;
@@ -206,14 +206,22 @@ pub fn bad_fixed(fixed: &[f64]) -> bool
     bad_records(fixed, CENTRED, 1)
 }
 
-// 8: the actions are not one for each frame. Divided and not multiplied, so that no length overflows.
+// The other list is not one record for each whole record of the list. Divided and not multiplied, so that no length overflows.
+pub fn bad_count(list: &[f64], size: usize, others: &[f64], other: usize) -> bool
+    requires { ⌜ (0 < size) × (0 < other) ⌝ }
+    ensures { λ r. ⌜ r ≡ badCount size (now (list .entry)) other (now (others .entry)) ⌝ }
+{
+    if others.len() % other != 0 {
+        return true;
+    }
+    others.len() / other != list.len() / size
+}
+
+// 8: the actions are not one for each frame.
 pub fn bad_actions(frames: &[f64], actions: &[f64]) -> bool
     ensures { λ r. ⌜ r ≡ badActions (now (frames .entry)) (now (actions .entry)) ⌝ }
 {
-    if actions.len() % ACTION != 0 {
-        return true;
-    }
-    actions.len() / ACTION != frames.len() / CENTRED
+    bad_count(frames, CENTRED, actions, ACTION)
 }
 
 // Mean and scatter as a host is told them.
