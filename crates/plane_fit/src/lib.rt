@@ -7,7 +7,7 @@ ghost use mathlib.Core.List.{_++_};
 ghost use lib.ListN.{length};
 ghost use Rattle.refusals.specs.Refusal.{Answered};
 ghost use Rattle.lists.specs.Part.{part};
-ghost use Rattle.sums.specs.Sum.{plus, grid};
+ghost use Rattle.sums.specs.Sum.{plus, grid, product, transpose};
 ghost use Rattle.derivative.specs.Action.{actionSize};
 ghost use Rattle.point_moments.specs.Scatter.{CENTRED};
 ghost use Rattle.plane_fit.specs.Records.{recordOf};
@@ -113,13 +113,20 @@ fn spread(s: [f64; 9], w: [f64; 3], n: f64, mean: [f64; 3]) -> [f64; 9]
     linear::plus9(s, linear::outer_scaled(o, o, n))
 }
 
+// A·S·Aᵀ, as `linear` has it: a copy for this loop alone, which the compiler takes into the loop.
+fn turn(a: [f64; 9], s: [f64; 9]) -> [f64; 9]
+    ensures { λ r. ⌜ r ≡ product 3 3 3 (product 3 3 3 a s) (transpose 3 3 a) ⌝ }
+{
+    linear::mat_mat(linear::mat_mat(a, s), linear::transposed(a))
+}
+
 // The same of a frame that the action x carries into the site: its scatter turned, A·S·Aᵀ, and its mean moved.
 fn spread_of(x: &[f64], f: Centred, mean: [f64; 3]) -> [f64; 9]
     requires { ⌜ length (now x) ≡ actionSize ⌝ }
     ensures { λ r. ⌜ r ≡ grid 3 3 (spread (turned (now (x .entry)) f) (centre (now (x .entry)) f) (f .count) mean) ⌝ }
 {
     let s = f.scatter;
-    let t = linear::congruent(action::matrix(x), s);
+    let t = turn(action::matrix(x), s);
     spread(t, centre(x, f), f.count, mean)
 }
 
