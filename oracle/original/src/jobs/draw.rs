@@ -1,0 +1,150 @@
+//! What jobs are drawn of.
+
+use oracle::draws::{self, within, Size, Wall};
+use oracle::generator::Generator;
+use oracle::patterns;
+
+/// How a job's numbers are: as they are met on a site, or such as lead astray.
+#[derive(Clone, Copy, PartialEq, Debug)]
+pub enum Temper {
+    /// Walls, floors, noisy poses.
+    Met,
+    /// Huge, tiny, zeros of both signs, overflowing.
+    Hostile,
+}
+
+impl Temper {
+    /// As they are met, in two jobs of three.
+    pub fn random(generator: &mut Generator) -> Temper {
+        generator.pick(&[Temper::Met, Temper::Met, Temper::Hostile])
+    }
+}
+
+/// Any numbers: of one size each, some special among them.
+pub fn any(length: usize, generator: &mut Generator) -> Vec<f64> {
+    let mut numbers = vec![0.0; length];
+    draws::fill(&mut numbers, generator);
+    numbers
+}
+
+/// Any finite numbers: an infinity or a NaN becomes a number of measured size.
+pub fn any_finite(length: usize, generator: &mut Generator) -> Vec<f64> {
+    let mut numbers = any(length, generator);
+    for number in &mut numbers {
+        if !number.is_finite() {
+            *number = within(-50.0, 50.0, generator);
+        }
+    }
+    numbers
+}
+
+/// Numbers of which one or two, or all, are any.
+pub fn spoilt(mut numbers: Vec<f64>, generator: &mut Generator) -> Vec<f64> {
+    match generator.below(3) {
+        0 => any(numbers.len(), generator),
+        _ => {
+            for _ in 0..=generator.below(2) {
+                let place = generator.below(numbers.len() as u64) as usize;
+                numbers[place] = any(1, generator)[0];
+            }
+            numbers
+        }
+    }
+}
+
+/// What an output holds before a call.
+pub fn old(length: usize, generator: &mut Generator) -> Vec<f64> {
+    draws::old(length, generator)
+}
+
+/// What a Hessian or a gradient holds before a call: zeros, numbers as they are met, or any.
+pub fn content(length: usize, generator: &mut Generator) -> Vec<f64> {
+    let mut numbers = vec![0.0; length];
+    match generator.below(4) {
+        0 => {}
+        1 => return old(length, generator),
+        2 => draws::fill(&mut numbers, generator),
+        _ => draws::fill_with(Size::Measured, &mut numbers, generator),
+    }
+    numbers
+}
+
+/// A sigma as it is met, or one of which the square is 0, tiny, huge or infinite.
+pub fn sigma(temper: Temper, generator: &mut Generator) -> f64 {
+    match temper {
+        Temper::Met => {
+            let measured = within(0.001, 0.3, generator);
+            generator.pick(&[0.1, 0.5, measured])
+        }
+        Temper::Hostile => generator.pick(&[1e-320, 1e-200, 1e-100, 3.0, 1e100, 1e200, f64::MAX]),
+    }
+}
+
+/// A sigma that is refused.
+pub fn bad_sigma(generator: &mut Generator) -> f64 {
+    generator.pick(&[0.0, -0.0, -1.0, f64::INFINITY, f64::NEG_INFINITY, f64::NAN])
+}
+
+/// A number that is not finite.
+pub fn not_finite(generator: &mut Generator) -> f64 {
+    generator.pick(&[f64::INFINITY, f64::NEG_INFINITY, f64::NAN, -f64::NAN])
+}
+
+/// A wall, or a floor: a piece whose way out is straight up.
+pub fn piece(generator: &mut Generator) -> Wall {
+    let mut wall = Wall::random(generator);
+    if generator.below(3) == 0 {
+        wall.axes = [[1.0, 0.0, 0.0], [0.0, 1.0, 0.0], [0.0, 0.0, 1.0]];
+    }
+    wall
+}
+
+/// A decomposition that no routine made: eigenvalues at which an answer changes, any axes or any numbers.
+pub fn decomposition(generator: &mut Generator) -> [f64; 12] {
+    const VALUES: [f64; 16] = [
+        0.0,
+        -0.0,
+        5e-324,
+        1e-15,
+        1e-14,
+        1.000_000_000_000_000_2e-14,
+        2e-14,
+        1e-12,
+        0.5,
+        1.0,
+        1.0,
+        2.0,
+        -1.0,
+        1e15,
+        f64::INFINITY,
+        f64::NEG_INFINITY,
+    ];
+    let mut numbers = [0.0; 12];
+    match generator.below(3) {
+        0 => draws::fill(&mut numbers, generator),
+        _ => {
+            for k in 0..3 {
+                numbers[3 + 4 * k] = 1.0;
+            }
+        }
+    }
+    for value in &mut numbers[..3] {
+        *value = match generator.below(5) {
+            0 => f64::from_bits(patterns::random(generator)),
+            _ => generator.pick(&VALUES),
+        };
+    }
+    numbers
+}
+
+/// An order of three.
+pub fn order(generator: &mut Generator) -> [usize; 3] {
+    generator.pick(&[
+        [0, 1, 2],
+        [0, 2, 1],
+        [1, 0, 2],
+        [1, 2, 0],
+        [2, 0, 1],
+        [2, 1, 0],
+    ])
+}

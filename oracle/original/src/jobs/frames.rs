@@ -1,0 +1,563 @@
+//! Frames of one plane: the build, the fit, accumulating and linearizing.
+
+use super::draw::{self, Temper};
+use super::moments::{numbers, of_numbers, vector};
+use super::tried::{for_a_group, Tried};
+use super::{maps, refused};
+use crate::calls::{self, Value};
+use crate::case::{After, Case, Cell};
+use crate::factors::lidar::action;
+use crate::factors::lidar::plane_moments::beside::{self, CentredNumbers};
+use crate::factors::lidar::plane_moments::{LidarPlaneMomentFactor, PointMoments};
+use crate::factors::{Factor, FactorError, NormalBlocks};
+use apex_manifolds::Affine;
+use faer::mat::MatMut;
+use nalgebra::eigen::{self, Decomposition};
+use nalgebra::{DMatrix, DVector};
+use oracle::draws::{self, Wall};
+use oracle::generator::Generator;
+
+pub fn run(generator: &mut Generator, cases: &mut Vec<Case>) {
+    if generator.below(40) == 0 {
+        // No group of more than nine degrees of freedom has a factor.
+        build::<Affine<10>>(Temper::Met, generator, cases);
+        return;
+    }
+    for_a_group!(generator, of_group(generator, cases));
+}
+
+fn of_group<G: Tried>(generator: &mut Generator, cases: &mut Vec<Case>) {
+    let temper = Temper::random(generator);
+    let Some(built) = build::<G>(temper, generator, cases) else {
+        return;
+    };
+    let job = Built::drawn(built, temper, generator);
+    job.fit(generator, cases);
+    for wanted in [true, false] {
+        job.accumulate(wanted, generator, cases);
+        job.linearize(wanted, generator, cases);
+    }
+    refused::add(cases, generator);
+}
+
+/// The number of a refusal of the factor's `new`.
+fn number(error: &FactorError) -> u32 {
+    match error {
+        FactorError::UnsupportedGroup { .. } => 1,
+        FactorError::TooFew { .. } => 2,
+        FactorError::InvalidValue { what, .. } => match *what {
+            "frame point count" => 4,
+            "plane point count" => 5,
+            "sigma" => 7,
+            what => panic!("no number for {what}"),
+        },
+        FactorError::NonFinite { .. } => 6,
+        error => panic!("no number for {error:?}"),
+    }
+}
+
+/// A factor with the states of its frames.
+struct Built<G: Tried> {
+    factor: LidarPlaneMomentFactor<G>,
+    states: Vec<Vec<f64>>,
+    sigma: f64,
+    /// What the decompositions are, in the order in which they are asked for, where LAPACK's are not taken.
+    by_hand: Option<Vec<Decomposition>>,
+    label: String,
+}
+
+/// The moments of a piece of wall as a state sees it: its points carried back by the map's inverse, where that is a turn
+/// with a scale.
+fn seen(piece: &Wall, action: &[f64], generator: &mut Generator) -> Vec<f64> {
+    let square: f64 = action[..3].iter().map(|entry| entry * entry).sum();
+    let points: Vec<_> = (0..1 + generator.below(8))
+        .map(|_| {
+            let world = piece.point(generator);
+            let back: Vec<f64> = (0..3)
+                .map(|row| {
+                    let along = |r: usize| action[3 * row + r] * (world[r] - action[9 + r]);
+                    (along(0) + along(1) + along(2)) / square
+                })
+                .collect();
+            vector(&back)
+        })
+        .collect();
+    numbers(&PointMoments::from_points(&points))
+}
+
+/// A set of finite moments of a positive count.
+fn hostile_set(generator: &mut Generator) -> Vec<f64> {
+    let mut record = draw::any_finite(13, generator);
+    record[0] = match generator.below(4) {
+        0 => generator.pick(&[5e-324, 1.0, 3.0, 1e300, f64::MAX]),
+        _ => record[0].abs().max(1e-300),
+    };
+    record
+}
+
+/// Has the factor built, and hands it back with its states where it is not refused.
+fn build<G: Tried>(
+    temper: Temper,
+    generator: &mut Generator,
+    cases: &mut Vec<Case>,
+) -> Option<(LidarPlaneMomentFactor<G>, Vec<Vec<f64>>, f64)> {
+    let count = match generator.below(60) {
+        0 => 30,
+        1..8 => 4 + generator.below(6),
+        _ => 1 + generator.below(3),
+    } as usize;
+    let piece = draw::piece(generator);
+    let states: Vec<Vec<f64>> = (0..count).map(|_| G::params(temper, generator)).collect();
+    let mut frames: Vec<Vec<f64>> = states
+        .iter()
+        .map(|state| match temper {
+            Temper::Met => seen(&piece, &action::beside::of_state::<G>(state), generator),
+            Temper::Hostile => hostile_set(generator),
+        })
+        .collect();
+    let mut fixed = match (generator.below(6), temper) {
+        (0..2, _) => Vec::new(),
+        (2, _) => vec![0.0; 13],
+        (_, Temper::Met) => draws::record_of(&piece, generator).to_vec(),
+        (_, Temper::Hostile) => hostile_set(generator),
+    };
+    let mut sigma = draw::sigma(temper, generator);
+    if generator.below(4) == 0 {
+        sigma = spoil(&mut frames, &mut fixed, sigma, generator);
+    }
+    let fixed_set = match fixed.len() {
+        0 => PointMoments::default(),
+        _ => of_numbers(&fixed),
+    };
+    let list: Vec<PointMoments> = frames.iter().map(|record| of_numbers(record)).collect();
+    let answer = LidarPlaneMomentFactor::<G>::new(list, fixed_set, sigma);
+    let old =
+        |length: usize, generator: &mut Generator| Value::Numbers(draw::old(length, generator));
+    let before = vec![
+        Value::Words(vec![G::DOF as u32]),
+        Value::Numbers(frames.concat()),
+        Value::Numbers(fixed.clone()),
+        Value::Numbers(vec![sigma]),
+        old(13 * frames.len(), generator),
+        old(fixed.len(), generator),
+        old(1, generator),
+        Value::Words(vec![7]),
+    ];
+    let kind = |label: &str| format!("{temper:?} {label}");
+    match answer {
+        Err(error) => {
+            cases.push(Case::refused(
+                &calls::FRAMES_BUILD,
+                kind("refused"),
+                before,
+                number(&error),
+            ));
+            None
+        }
+        Ok(factor) => {
+            let kept = beside::fixed(&factor);
+            let label = match (&kept, fixed.len()) {
+                (Some(_), _) => "kept",
+                (None, 0) => "none",
+                (None, _) => "dropped",
+            };
+            let dropped = u32::from(label == "dropped");
+            let mut after = vec![
+                (
+                    "centred_frames",
+                    After::numbers(&beside::frames(&factor).concat()),
+                ),
+                ("points", After::numbers(&[factor.points()])),
+                ("fixed_dropped", After::Words(vec![dropped])),
+            ];
+            if let Some(kept) = kept.filter(|_| !fixed.is_empty()) {
+                after.push(("centred_fixed", After::numbers(&kept)));
+            }
+            cases.push(Case::accepted(
+                &calls::FRAMES_BUILD,
+                kind(label),
+                before,
+                after,
+            ));
+            Some((factor, states, sigma))
+        }
+    }
+}
+
+/// Spoils what a build is handed, so that it may be refused; hands back the sigma.
+fn spoil(
+    frames: &mut Vec<Vec<f64>>,
+    fixed: &mut Vec<f64>,
+    sigma: f64,
+    generator: &mut Generator,
+) -> f64 {
+    const COUNTS: [f64; 12] = [
+        0.0,
+        -0.0,
+        -1.0,
+        -3.0,
+        0.5,
+        1.0,
+        2.0,
+        3.0,
+        f64::NAN,
+        f64::INFINITY,
+        f64::NEG_INFINITY,
+        5e-324,
+    ];
+    for _ in 0..=generator.below(2) {
+        let frame = generator.below(frames.len().max(1) as u64) as usize;
+        match generator.below(8) {
+            0 => frames.clear(),
+            1 => return draw::bad_sigma(generator),
+            2 if !fixed.is_empty() => {
+                fixed[generator.below(13) as usize] = draw::not_finite(generator);
+            }
+            3..5 if !fixed.is_empty() => fixed[0] = generator.pick(&COUNTS),
+            5 if !frames.is_empty() => {
+                frames[frame][generator.below(13) as usize] = draw::not_finite(generator);
+            }
+            _ if !frames.is_empty() => frames[frame][0] = generator.pick(&COUNTS),
+            _ => {}
+        }
+    }
+    sigma
+}
+
+impl<G: Tried> Built<G> {
+    /// The factor that was built or, for every third hostile job, one of centred sets that no build makes.
+    fn drawn(
+        (factor, states, sigma): (LidarPlaneMomentFactor<G>, Vec<Vec<f64>>, f64),
+        temper: Temper,
+        generator: &mut Generator,
+    ) -> Self {
+        let mut factor = factor;
+        let mut label = format!("{temper:?}");
+        if temper == Temper::Hostile && generator.below(3) == 0 {
+            let mut set = || -> CentredNumbers {
+                let drawn = draw::any(13, generator);
+                std::array::from_fn(|place| drawn[place])
+            };
+            let sets: Vec<CentredNumbers> = states.iter().map(|_| set()).collect();
+            let fixed = beside::fixed(&factor).map(|_| set());
+            factor = beside::of_centred(&sets, fixed.as_ref(), sigma);
+            label += " any sets";
+        }
+        let asked = states.len() + 2;
+        let by_hand = (generator.below(4) == 0)
+            .then(|| (0..asked).map(|_| draw::decomposition(generator)).collect());
+        if by_hand.is_some() {
+            label += " by hand";
+        }
+        eigen::hand_out_by(draw::order(generator));
+        Built {
+            factor,
+            states,
+            sigma,
+            by_hand,
+            label,
+        }
+    }
+
+    fn params(&self) -> Vec<&[f64]> {
+        self.states.iter().map(Vec::as_slice).collect()
+    }
+
+    /// Has the original work, by the decompositions of this job, and hands back those that it asked for.
+    fn worked<T>(&self, work: impl FnOnce() -> T) -> (T, Vec<eigen::Asked>) {
+        eigen::taken();
+        eigen::hand_in(self.by_hand.iter().flatten().copied());
+        let answer = work();
+        eigen::hand_in([]);
+        (answer, eigen::taken())
+    }
+
+    /// dof, frames and fixed set, as every call takes them.
+    fn first_parameters(&self) -> Vec<Value> {
+        let fixed = beside::fixed(&self.factor);
+        vec![
+            Value::Words(vec![G::DOF as u32]),
+            Value::Numbers(beside::frames(&self.factor).concat()),
+            Value::Numbers(fixed.map_or(Vec::new(), |fixed| fixed.to_vec())),
+        ]
+    }
+
+    fn kind(&self, plane: bool, label: &str) -> String {
+        let fixed = if beside::fixed(&self.factor).is_some() {
+            "fixed"
+        } else {
+            "free"
+        };
+        let plane = if plane { "plane" } else { "no plane" };
+        format!("{} {} {fixed} {plane} {label}", G::NAME, self.label)
+    }
+
+    /// The actions, and the plane of the fit.
+    fn fitted(&self) -> (Vec<f64>, Option<[f64; 4]>, Vec<eigen::Asked>) {
+        let ((actions, plane), asked) = self.worked(|| beside::fit(&self.factor, &self.params()));
+        (actions.concat(), plane, asked)
+    }
+
+    /// The offset of the plane that the fit has for a normal. By unit normals it shows the fit's mean.
+    fn offset(&self, normal: [f64; 3]) -> f64 {
+        let [x, y, z] = normal;
+        eigen::hand_in([[0.0, 1.0, 2.0, x, y, z, 0.0, 0.0, 0.0, 0.0, 0.0, 0.0]]);
+        let (_, plane) = beside::fit(&self.factor, &self.params());
+        eigen::hand_in([]);
+        eigen::taken();
+        plane.map_or(f64::NAN, |[_, _, _, offset]| offset)
+    }
+
+    /// Coordinate k of the fit's mean, by the offset -(n·mean) of a unit normal: another coordinate that is not finite
+    /// hides it. The zeros of the normal get all signs, so that a mean of -0 is seen: then all three products are -0 once.
+    fn mean(&self, k: usize) -> Cell {
+        let offset = |signs: [f64; 2]| {
+            let mut normal = [signs[0]; 3];
+            normal[(k + 2) % 3] = signs[1];
+            normal[k] = 1.0;
+            -self.offset(normal)
+        };
+        let first = offset([0.0, 0.0]);
+        match first {
+            _ if first.is_nan() => Cell::Unseen,
+            0.0 => {
+                let rest = [[0.0, -0.0], [-0.0, 0.0], [-0.0, -0.0]].map(offset);
+                let negative =
+                    first.is_sign_negative() || rest.iter().any(|x| x.is_sign_negative());
+                Cell::Is(if negative { -0.0 } else { 0.0 })
+            }
+            _ => Cell::Is(first),
+        }
+    }
+
+    fn fit(&self, generator: &mut Generator, cases: &mut Vec<Case>) {
+        let (actions, plane, asked) = self.fitted();
+        let mut before = self.first_parameters();
+        before.push(Value::Numbers(actions));
+        before.push(Value::Numbers(draw::old(12, generator)));
+        let mut cells: Vec<Cell> = (0..3).map(|k| self.mean(k)).collect();
+        cells.extend(asked[0].matrix.map(Cell::Is));
+        let after = [("out", After::Numbers(cells))];
+        cases.push(Case::accepted(
+            &calls::FRAMES_FIT,
+            self.kind(plane.is_some(), ""),
+            before,
+            after,
+        ));
+    }
+
+    fn accumulate(&self, wanted: bool, generator: &mut Generator, cases: &mut Vec<Case>) {
+        let (actions, plane, asked) = self.fitted();
+        let target = Target::drawn(wanted, G::DOF, self.states.len(), generator);
+        let mut before = self.first_parameters();
+        before.push(Value::Numbers(vec![self.sigma]));
+        before.push(Value::Numbers(actions));
+        before.push(Value::Numbers(asked[0].decomposition.to_vec()));
+        before.extend(target.parameters());
+        before.push(Value::Numbers(draw::old(1, generator)));
+        let mut after = target.clone();
+        let (cost, _) = self
+            .worked(|| after.lend(|blocks| self.factor.accumulate_normal(&self.params(), blocks)));
+        let mut written = vec![(
+            "cost",
+            After::numbers(&[cost.expect("the factor accumulates")]),
+        )];
+        if plane.is_some() {
+            written.extend(after.written(G::DOF));
+        }
+        let kind = self.kind(plane.is_some(), target.label());
+        cases.push(Case::accepted(
+            &calls::FRAMES_ACCUMULATE,
+            kind,
+            before,
+            written,
+        ));
+    }
+
+    fn linearize(&self, wanted: bool, generator: &mut Generator, cases: &mut Vec<Case>) {
+        let (actions, plane, _) = self.fitted();
+        let (rows, columns) = self.factor.jacobian_shape();
+        let entries = if wanted { rows * columns } else { 0 };
+        let old = [draw::old(rows, generator), draw::old(entries, generator)];
+        let run = || {
+            let [mut residual, mut jacobian] = old.clone();
+            let view = wanted.then(|| MatMut::of(rows, columns, &mut jacobian));
+            self.factor.linearize(&self.params(), &mut residual, view);
+            [residual, jacobian]
+        };
+        let ([mut residual, mut jacobian], asked) = self.worked(run);
+        let mut list: Vec<Decomposition> = asked.iter().map(|asked| asked.decomposition).collect();
+        // Rust leaves open which zero -0 becomes under a root: the original is handed the one that document 01 settles.
+        let settled: Vec<Decomposition> = list
+            .iter()
+            .enumerate()
+            .map(|(k, d)| settled(k, *d))
+            .collect();
+        if list
+            .as_flattened()
+            .iter()
+            .zip(settled.as_flattened())
+            .any(|(a, b)| a.to_bits() != b.to_bits())
+        {
+            eigen::hand_in(settled);
+            [residual, jacobian] = run();
+            eigen::hand_in([]);
+            eigen::taken();
+        }
+        let fixed = beside::fixed(&self.factor).is_some();
+        let length = 1 + self.states.len() + usize::from(fixed);
+        list.resize_with(length, || draw::decomposition(generator));
+        let mut before = self.first_parameters();
+        before.push(Value::Numbers(vec![self.sigma]));
+        before.push(Value::Numbers(actions));
+        before.push(Value::Numbers(list.concat()));
+        before.extend(old.map(Value::Numbers));
+        let kind = self.kind(plane.is_some(), if wanted { "wanted" } else { "unwanted" });
+        let after = [
+            ("residual", After::numbers(&residual)),
+            ("jacobian", After::numbers(&jacobian)),
+        ];
+        cases.push(Case::accepted(
+            &calls::FRAMES_LINEARIZE,
+            kind,
+            before,
+            after,
+        ));
+    }
+}
+
+/// A root's eigenvalue of -0 as +0; the fit's own decomposition is the first, and has no root.
+fn settled(place: usize, mut decomposition: Decomposition) -> Decomposition {
+    if place > 0 {
+        for value in &mut decomposition[..3] {
+            if *value == 0.0 {
+                *value = 0.0;
+            }
+        }
+    }
+    decomposition
+}
+
+/// What a call accumulates into: Hessian, gradient and the offset of each block, or nothing of it.
+#[derive(Clone)]
+pub struct Target {
+    wanted: bool,
+    n: usize,
+    hessian: Vec<f64>,
+    gradient: Vec<f64>,
+    offsets: Vec<Option<usize>>,
+    frames: usize,
+}
+
+impl Target {
+    /// A target for some frames: the map may be shorter or longer than the list of frames.
+    pub fn drawn(wanted: bool, dof: usize, frames: usize, generator: &mut Generator) -> Target {
+        if !wanted {
+            return Target {
+                wanted,
+                n: 0,
+                hessian: Vec::new(),
+                gradient: Vec::new(),
+                offsets: Vec::new(),
+                frames,
+            };
+        }
+        let n = dof + generator.below(2 + dof as u64) as usize;
+        let words = (frames + generator.below(3) as usize).saturating_sub(1);
+        let offsets = (0..words)
+            .map(|_| {
+                (generator.below(5) != 0).then(|| generator.below((n - dof + 1) as u64) as usize)
+            })
+            .collect();
+        Target {
+            wanted,
+            n,
+            hessian: draw::content(n * n, generator),
+            gradient: draw::content(n, generator),
+            offsets,
+            frames,
+        }
+    }
+
+    /// Map, Hessian and gradient as they are handed in.
+    pub fn parameters(&self) -> [Value; 3] {
+        [
+            Value::Words(maps::words(&self.offsets)),
+            Value::Numbers(self.hessian.clone()),
+            Value::Numbers(self.gradient.clone()),
+        ]
+    }
+
+    /// Lends the original the blocks: those of a wrapping factor, remapped where some are dropped.
+    pub fn lend<T>(&mut self, work: impl FnOnce(Option<&mut NormalBlocks<'_>>) -> T) -> T {
+        if !self.wanted {
+            return work(None);
+        }
+        let mut hessian = DMatrix::from_column_slice(self.n, self.n, &self.hessian);
+        let mut gradient = DVector::from_column_slice(&self.gradient);
+        let all: Option<Vec<usize>> = self.offsets.iter().copied().collect();
+        let answer = match all {
+            Some(offsets) => work(Some(&mut NormalBlocks::new(
+                &mut hessian,
+                &mut gradient,
+                &offsets,
+            ))),
+            None => {
+                let places: Vec<usize> = (0..=self.n).collect();
+                let mut outer = NormalBlocks::new(&mut hessian, &mut gradient, &places);
+                work(Some(&mut outer.remapped(&self.offsets)))
+            }
+        };
+        self.hessian = hessian.as_slice().to_vec();
+        self.gradient = gradient.as_slice().to_vec();
+        answer
+    }
+
+    /// Hessian and gradient afterwards: the cells of a frame's segment as the original left them, the others kept.
+    pub fn written(&self, dof: usize) -> Vec<(&'static str, After)> {
+        let segments: Vec<usize> = self
+            .offsets
+            .iter()
+            .take(self.frames)
+            .flatten()
+            .copied()
+            .collect();
+        let within = |row: usize, from: usize| from <= row && row < from + dof;
+        let cell = |written: bool, number: f64| {
+            if written {
+                Cell::Is(number)
+            } else {
+                Cell::Kept
+            }
+        };
+        let hessian = (0..self.hessian.len()).map(|place| {
+            let (row, column) = (place % self.n, place / self.n);
+            let written = segments
+                .iter()
+                .any(|&from| within(row, from) && within(column, from));
+            cell(written, self.hessian[place])
+        });
+        let gradient = (0..self.n).map(|row| {
+            cell(
+                segments.iter().any(|&from| within(row, from)),
+                self.gradient[row],
+            )
+        });
+        vec![
+            ("hessian", After::Numbers(hessian.collect())),
+            ("gradient", After::Numbers(gradient.collect())),
+        ]
+    }
+
+    /// What kind of target it is.
+    pub fn label(&self) -> &'static str {
+        let known = self.offsets.len().min(self.frames);
+        match &self.offsets[..known] {
+            _ if !self.wanted => "unwanted",
+            [] => "no map",
+            offsets if offsets.iter().all(Option::is_none) => "unmapped",
+            offsets if known < self.frames || offsets.iter().any(Option::is_none) => "some mapped",
+            _ => "mapped",
+        }
+    }
+}

@@ -1,0 +1,156 @@
+//! Calls that are refused by rules that the Rust does not have, or has elsewhere: an accepted call with one or two things
+//! spoilt. Here document 01 says the number and not the original; of two reasons the lower-placed one is answered.
+
+use super::draw;
+use crate::calls::Value;
+use crate::case::{place, Case};
+use oracle::generator::Generator;
+
+/// A parameter spoilt, and the reason.
+struct Spoilt {
+    place: usize,
+    value: Value,
+    reason: u32,
+}
+
+/// For every third job, adds an accepted call of the list with something spoilt.
+pub fn add(cases: &mut Vec<Case>, generator: &mut Generator) {
+    let Some(last) = cases.last() else { return };
+    if generator.below(3) != 0 {
+        return;
+    }
+    // Among the last few calls, which are this job's.
+    let from = cases.len() - 1 - generator.below(6.min(cases.len() as u64)) as usize;
+    let case = if cases[from].answer == 0 {
+        &cases[from]
+    } else {
+        last
+    };
+    if case.answer != 0 {
+        return;
+    }
+    let mut spoils = all(case, generator);
+    if spoils.is_empty() {
+        return;
+    }
+    let first = spoils.swap_remove(generator.below(spoils.len() as u64) as usize);
+    // Two lengths that are both one more may fit together again.
+    spoils.retain(|other| other.place != first.place && other.reason != first.reason);
+    let mut before = case.before.clone();
+    let mut reason = first.reason;
+    let mut kind = format!("refused by {}", case.call.parameters[first.place]);
+    if generator.below(3) == 0 && !spoils.is_empty() {
+        let second = spoils.swap_remove(generator.below(spoils.len() as u64) as usize);
+        reason = reason.min(second.reason);
+        kind += &format!(" and {}", case.call.parameters[second.place]);
+        before[second.place] = second.value;
+    }
+    before[first.place] = first.value;
+    cases.push(Case::refused(case.call, kind, before, reason));
+}
+
+/// One more entry.
+fn longer(value: &Value) -> Value {
+    match value.clone() {
+        Value::Numbers(mut numbers) => {
+            numbers.push(1.0);
+            Value::Numbers(numbers)
+        }
+        Value::Words(mut words) => {
+            words.push(0);
+            Value::Words(words)
+        }
+    }
+}
+
+/// One entry fewer.
+fn shorter(value: &Value) -> Value {
+    match value.clone() {
+        Value::Numbers(mut numbers) => {
+            numbers.pop();
+            Value::Numbers(numbers)
+        }
+        Value::Words(mut words) => {
+            words.pop();
+            Value::Words(words)
+        }
+    }
+}
+
+/// Everything that can be spoilt of a call.
+fn all(case: &Case, generator: &mut Generator) -> Vec<Spoilt> {
+    let mut spoils = Vec::new();
+    let call = case.call;
+    for (place, value) in case.before.iter().enumerate() {
+        let mut spoil = |value: Value, reason: u32| {
+            spoils.push(Spoilt {
+                place,
+                value,
+                reason,
+            });
+        };
+        match (call.parameters[place], call.manners[place]) {
+            ("dof", _) => spoil(Value::Words(vec![10 + generator.below(4) as u32]), 1),
+            ("sigma", "number") => spoil(Value::Numbers(vec![draw::bad_sigma(generator)]), 7),
+            (_, "word" | "number" | "out_number" | "out_word") => {}
+            ("actions" | "action", _) => {
+                spoil(longer(value), 8);
+                spoil(shorter(value), 8);
+            }
+            // Empty means not wanted, or no map.
+            ("jacobian" | "row", _) if value.is_empty() => {}
+            ("map", _) => {}
+            (name, _) => {
+                spoil(longer(value), 3);
+                if matches!(name, "frames" | "matches" | "a_match") {
+                    spoil(Value::Numbers(Vec::new()), 2);
+                }
+            }
+        }
+    }
+    spoils.extend(words(case, generator));
+    spoils
+}
+
+/// What can be spoilt of maps and lists of words.
+fn words(case: &Case, generator: &mut Generator) -> Vec<Spoilt> {
+    let mut spoils = Vec::new();
+    for (place, value) in case.before.iter().enumerate() {
+        let Value::Words(words) = value else { continue };
+        if !matches!(case.call.parameters[place], "map" | "list") || words.is_empty() {
+            continue;
+        }
+        let at = generator.below(words.len() as u64) as usize;
+        let mut bad = words.clone();
+        bad[at] = generator.pick(&[
+            0x8000_0000,
+            0xC000_0000,
+            0x4000_0001,
+            0x7FFF_FFFF,
+            0xFFFF_FFFF,
+        ]);
+        spoils.push(Spoilt {
+            place,
+            value: Value::Words(bad),
+            reason: 9,
+        });
+        if case.call.parameters.contains(&"gradient") {
+            let [dof, n] = ["dof", "gradient"].map(|name| &case.before[place_of(case, name)]);
+            let (Value::Words(dof), n) = (dof, n.len() as u32) else {
+                continue;
+            };
+            let mut past = words.clone();
+            past[0] = (n + 1).saturating_sub(dof[0]) + generator.below(3) as u32;
+            spoils.push(Spoilt {
+                place,
+                value: Value::Words(past),
+                reason: 10,
+            });
+        }
+    }
+    spoils
+}
+
+fn place_of(case: &Case, name: &str) -> usize {
+    place(case.call, name)
+}
