@@ -1,0 +1,121 @@
+-- Building a frame factor: why the call is refused, and what it leaves where it is not. Definitions, and what an accepted call is known by; assumes nothing.
+-- frames: the moments of each frame; fixed: nothing, or one set's moments; the outputs are centred sets.
+use Prim.Native.Nat.{ℕ, suc, _*_, _/_, _<_}
+use native.Mathlib.Nat.{mul-comm}
+use native.Mathlib.Omega.{arith}
+use mathlib.Core.Path.{_≡_, refl, ap, _∙_}
+use mathlib.Core.Logic.{_⊎_}
+use mathlib.Core.Bool.{Bool, true, false, not, _||_, cond}
+use mathlib.Core.List.{List, [], _∷_}
+use lib.Dec.{ltb, eqb}
+use lib.ListN.{length, getD}
+use lib.Ieee.{Float, nan, le}
+use lib.Ieee.Scale.{finite}
+use borrow.Author.Tests.{not-false}
+use Rattle.refusals.specs.Refusal.{_when_, firstOf, Answered}
+use Rattle.sums.specs.Sum.{zeroF}
+use Rattle.validate.specs.Finite.{allFinite, finitePositive}
+use Rattle.validate.proofs.Laws.{finite-at}
+use Rattle.normal_blocks.specs.Somewhere.{nowhere-at}
+use Rattle.point_moments.specs.Moments.{MOMENTS}
+use Rattle.point_moments.specs.Scatter.{CENTRED, hasMean}
+use Rattle.plane_fit.specs.Calls.{mostFrames, mostDof, badRecords, badCount, at-most-one, one-each}
+use Rattle.frame_sets.specs.Sets.{setCount, setAt, countAt, emptyAt, someEmpty, tooFew, notFinite, dropped, centredFrames, centredFixed, points}
+
+-- 3: the frames are whole sets, at most 256; the fixed set is nothing or one set; each output is one centred set for each set of its input. So the
+-- output of a fixed set is CENTRED numbers, and empty where no set is handed in: a set and a centred set are as long only by accident.
+unfoldable pub badShapes : List Float → List Float → List Float → List Float → Bool
+badShapes frames fixed outFrames outFixed =
+    badRecords MOMENTS mostFrames frames || (badRecords MOMENTS 1 fixed || (badCount MOMENTS frames CENTRED outFrames || badCount MOMENTS fixed CENTRED outFixed))
+
+-- "Building a frame factor tests 1 to 7"
+unfoldable pub buildRefusal : ℕ → List Float → List Float → Float → List Float → List Float → ℕ
+buildRefusal dof frames fixed sigma outFrames outFixed =
+    firstOf
+    (1 when ltb mostDof dof ∷
+    2 when eqb (length frames) 0 ∷
+    3 when badShapes frames fixed outFrames outFixed ∷
+    4 when someEmpty frames ∷
+    5 when tooFew frames fixed ∷
+    6 when notFinite frames fixed ∷
+    7 when not (finitePositive sigma) ∷ [])
+
+-- what the call may write
+pub record Outputs : Type 0 where
+  pub frames : List Float
+  pub fixed : List Float
+  pub points : Float
+  pub dropped : ℕ
+
+abbrev pub outputs : List Float → List Float → Float → ℕ → Outputs
+outputs frames fixed points dropped = record { frames = frames; fixed = fixed; points = points; dropped = dropped }
+
+-- 1 exactly if a fixed set was handed in and its count is at or below 0
+abbrev pub flag : Bool → ℕ
+flag b = cond b 1 0
+
+-- what an accepted call leaves, where the slice meant for the fixed set held `old`
+unfoldable pub built : List Float → List Float → List Float → Outputs
+built frames fixed old = outputs (centredFrames frames) (centredFixed fixed old) (points frames fixed) (flag (dropped fixed))
+
+-- the call with the answer r: the four outputs before, and after
+abbrev pub Builds : ℕ → List Float → List Float → Float → List Float → List Float → Float → ℕ → ℕ → List Float → List Float → Float → ℕ → Type 0
+Builds dof frames fixed sigma outFrames outFixed points dropped r outFrames′ outFixed′ points′ dropped′ =
+    Answered (buildRefusal dof frames fixed sigma outFrames outFixed) r
+    (outputs outFrames outFixed points dropped) (outputs outFrames′ outFixed′ points′ dropped′)
+    (built frames fixed outFixed)
+
+-- ---- what is known where no test applies
+
+none : (b : Bool) (k rest : ℕ) → cond b (suc k) rest ≡ 0 → (b ≡ false) × (rest ≡ 0)
+none true k rest h = absurd (omega arith)
+none false k rest h = (refl, h)
+
+either-none : (a b : Bool) → (a || b) ≡ false → (a ≡ false) × (b ≡ false)
+either-none true b h = (h, cc)
+either-none false b h = (refl, h)
+
+-- the lists have the lengths that the work asks for
+pub record Whole (frames fixed outFrames outFixed : List Float) : Type 0 where
+  pub fixed-set : (length fixed ≡ 0) ⊎ (length fixed ≡ MOMENTS)
+  pub frames-out : length outFrames ≡ setCount frames * CENTRED
+  pub fixed-out : length outFixed ≡ setCount fixed * CENTRED
+
+pub whole-sets : (frames fixed outFrames outFixed : List Float) → badShapes frames fixed outFrames outFixed ≡ false → Whole frames fixed outFrames outFixed
+unfolding badShapes
+whole-sets frames fixed outFrames outFixed h =
+    let p = either-none (badRecords MOMENTS 1 fixed) _ (either-none (badRecords MOMENTS mostFrames frames) _ h .1) in
+    let q = either-none (badCount MOMENTS frames CENTRED outFrames) _ (p .1) in
+    record {
+      fixed-set = at-most-one MOMENTS fixed (p .0);
+      frames-out = one-each MOMENTS frames CENTRED outFrames (q .0) ∙ mul-comm CENTRED (setCount frames);
+      fixed-out = one-each MOMENTS fixed CENTRED outFixed (q .1) ∙ mul-comm CENTRED (setCount fixed);
+    }
+
+module _ (dof : ℕ) (frames fixed : List Float) (sigma : Float) (outFrames outFixed : List Float) (accepted : buildRefusal dof frames fixed sigma outFrames outFixed ≡ 0) where
+  -- the tests 3, 4 and 6 do not apply
+  passed : (badShapes frames fixed outFrames outFixed ≡ false) × (someEmpty frames ≡ false) × (notFinite frames fixed ≡ false)
+  unfolding buildRefusal
+  passed =
+      let one = none (ltb mostDof dof) 0 _ accepted in
+      let two = none (eqb (length frames) 0) 1 _ (one .1) in
+      let three = none (badShapes frames fixed outFrames outFixed) 2 _ (two .1) in
+      let four = none (someEmpty frames) 3 _ (three .1) in
+      let five = none (tooFew frames fixed) 4 _ (four .1) in
+      let six = none (notFinite frames fixed) 5 _ (five .1) in
+      (three .0, four .0, six .0)
+
+  pub built-whole : Whole frames fixed outFrames outFixed
+  built-whole = whole-sets frames fixed outFrames outFixed (passed .0)
+
+  -- an accepted build has only finite moments, the fixed set's too where it is dropped
+  pub built-finite : ((k : ℕ) → k < length frames → finite (getD frames k nan) ≡ true) × ((k : ℕ) → k < length fixed → finite (getD fixed k nan) ≡ true)
+  unfolding notFinite
+  built-finite =
+      let p = either-none (not (allFinite frames)) (not (allFinite fixed)) (passed .2) in
+      (finite-at frames (not-false _ (p .0)), finite-at fixed (not-false _ (p .1)))
+
+  -- and none of its frames is without a mean, so that the Rust's Degenerate, which has no number here, cannot arise
+  pub built-mean : (k : ℕ) → k < setCount frames → hasMean (setAt frames k) ≡ true
+  unfolding someEmpty emptyAt countAt
+  built-mean k h = ap not (nowhere-at (emptyAt frames) (setCount frames) (passed .1) k h)

@@ -1,0 +1,2 @@
+// The factor of one plane seen by frames: building it, and the calls on it.
+pub mod build;
