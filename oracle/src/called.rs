@@ -202,25 +202,82 @@ fn cut<'a, T, const K: usize>(
 pub struct Fault<Case> {
     /// The number of the reason.
     pub number: u32,
-    /// Makes it.
-    pub make: fn(&mut Case, &mut Generator),
+    make: Box<dyn Fn(&mut Case, &mut Generator)>,
 }
 
-/// Goes through each fault alone and every two of them, in both orders, each time in a case of its own.
-pub fn every_pair<Case>(
+impl<Case: 'static> Fault<Case> {
+    /// The fault that `make` makes.
+    pub fn new(number: u32, make: impl Fn(&mut Case, &mut Generator) + 'static) -> Self {
+        Fault {
+            number,
+            make: Box::new(make),
+        }
+    }
+
+    /// Makes it.
+    pub fn make(&self, case: &mut Case, generator: &mut Generator) {
+        (self.make)(case, generator);
+    }
+
+    /// The same fault in a part of a larger case.
+    pub fn within<Whole: 'static>(self, part: fn(&mut Whole) -> &mut Case) -> Fault<Whole> {
+        Fault::new(self.number, move |whole, generator| {
+            self.make(part(whole), generator);
+        })
+    }
+}
+
+/// Goes through every two faults in both orders, and each twice, every time in a case of its own; `check` gets the case and
+/// the numbers of both.
+pub fn every_pair<Case: 'static>(
     faults: &[Fault<Case>],
     accepted: impl Fn(&mut Generator) -> Case,
     generator: &mut Generator,
-    mut check: impl FnMut(Case, &mut Generator),
+    mut check: impl FnMut(Case, [u32; 2]),
 ) {
     for first in faults {
         for second in faults {
             let mut case = accepted(generator);
-            (first.make)(&mut case, generator);
-            (second.make)(&mut case, generator);
-            check(case, generator);
+            first.make(&mut case, generator);
+            second.make(&mut case, generator);
+            check(case, [first.number, second.number]);
         }
     }
+}
+
+/// Each fault alone has to be refused by its own number, and two of them by one of both; `answer` is what the model answers.
+/// For the groups' tests.
+#[cfg(test)]
+pub fn check_faults<Case: 'static>(
+    faults: &[Fault<Case>],
+    accepted: impl Fn(&mut Generator) -> Case,
+    answer: impl Fn(Case) -> u32,
+) {
+    let mut generator = Generator::new(1);
+    let generator = &mut generator;
+    for _ in 0..20 {
+        assert_eq!(answer(accepted(generator)), 0);
+    }
+    for (k, fault) in faults.iter().enumerate() {
+        for _ in 0..3 {
+            let mut case = accepted(generator);
+            fault.make(&mut case, generator);
+            assert_eq!(answer(case), fault.number, "fault {k}");
+        }
+    }
+    every_pair(faults, accepted, generator, |case, both| {
+        let number = answer(case);
+        assert!(both.contains(&number), "{number} of {both:?}");
+    });
+}
+
+/// What a call answers on a copy of what it is lent. For the groups' tests.
+#[cfg(test)]
+pub fn answer<const N: usize, const W: usize>(call: &Call<'_, N, W>, mut lent: Lent<N, W>) -> u32 {
+    call(
+        lent.numbers.each_mut().map(Vec::as_mut_slice),
+        lent.words.each_mut().map(Vec::as_mut_slice),
+    )
 }
 
 #[cfg(test)]

@@ -1,11 +1,12 @@
 //! What the calls on frames are tried on: a wall seen from several poses, and numbers that lead astray.
 
+use crate::called::Fault;
 use crate::draws::{self, fill, numbers, old, record_of, within, Pose, Wall, COUNTS};
 use crate::generator::Generator;
 use crate::model::frames::centred;
 use crate::model::moments::{transformed, Moments};
-use crate::model::{matrix, vector, Matrix, Vector, MAX_DOF};
-use maghnelt::{ACTION, CENTRED, MAX_FRAMES};
+use crate::model::{matrix, vector, Matrix, Vector, ACTIONS, DOF, EMPTY_LIST, LENGTH, MAX_DOF};
+use maghnelt::{ACTION, CENTRED, DECOMPOSITION, MAX_FRAMES};
 
 /// Frames, a fixed set and actions, as the calls after the build take them.
 #[derive(Clone)]
@@ -39,6 +40,47 @@ impl Scene {
             );
         }
         scene
+    }
+
+    /// So many frames of a wall, with any dof.
+    pub fn of_a_wall(frames: usize, generator: &mut Generator) -> Scene {
+        let dof = generator.below(1 + u64::from(MAX_DOF)) as u32;
+        wall_seen(dof, frames, generator)
+    }
+
+    /// What a call can be refused for in it.
+    pub fn faults() -> Vec<Fault<Scene>> {
+        vec![
+            Fault::new(DOF, |scene: &mut Scene, _| scene.dof = MAX_DOF + 1),
+            Fault::new(DOF, |scene: &mut Scene, generator| {
+                scene.dof = u32::MAX - generator.below(1 << 31) as u32;
+            }),
+            Fault::new(EMPTY_LIST, |scene: &mut Scene, _| scene.frames.clear()),
+            // Not whole frames.
+            Fault::new(LENGTH, |scene: &mut Scene, generator| {
+                let wrong = scene.frames.len() + generator.pick(&[1, 2, CENTRED - 1]);
+                scene.frames.resize(wrong, 1.0);
+            }),
+            // A frame too many, each with its action.
+            Fault::new(LENGTH, |scene: &mut Scene, _| {
+                scene.frames.resize(CENTRED * (MAX_FRAMES + 1), 1.0);
+                scene.actions.resize(ACTION * (MAX_FRAMES + 1), 1.0);
+            }),
+            Fault::new(LENGTH, |scene: &mut Scene, generator| {
+                let wrong = [1, CENTRED - 1, CENTRED + 1, 2 * CENTRED];
+                scene.fixed.resize(generator.pick(&wrong), 1.0);
+            }),
+            Fault::new(ACTIONS, |scene: &mut Scene, generator| {
+                let right = ACTION * scene.len();
+                let wrong = [0, 1, right + 1, right + ACTION, right + ACTION - 1];
+                let wrong: Vec<usize> = wrong.into_iter().filter(|&k| k != right).collect();
+                scene.actions.resize(generator.pick(&wrong), 1.0);
+            }),
+            // As many numbers as the frames have.
+            Fault::new(ACTIONS, |scene: &mut Scene, _| {
+                scene.actions.resize(scene.frames.len() + 1, 1.0);
+            }),
+        ]
     }
 
     /// The number of frames.
@@ -192,6 +234,15 @@ pub fn jacobi(mut m: Matrix<3>) -> (Vector, [Vector; 3]) {
         }
     }
     (vector(|k| m[k][k]), vectors)
+}
+
+/// The same as it is handed over.
+pub fn decomposition_of(m: Matrix<3>) -> [f64; DECOMPOSITION] {
+    let (values, vectors) = jacobi(m);
+    let mut decomposition = [0.0; DECOMPOSITION];
+    decomposition[..3].copy_from_slice(&values);
+    decomposition[3..].copy_from_slice(vectors.as_flattened());
+    decomposition
 }
 
 #[cfg(test)]

@@ -4,10 +4,10 @@ use crate::called::{every_pair, Call, Comparison, Fault, Lent};
 use crate::draws::old;
 use crate::generator::Generator;
 use crate::lent::number;
-use crate::model::{frames as model, ACTIONS, DOF, EMPTY_LIST, LENGTH, MAX_DOF};
+use crate::model::{frames as model, LENGTH};
 use crate::report::Report;
 use crate::scenes::{some_frames, Scene};
-use maghnelt::{slices as library, ACTION, CENTRED, MAX_FRAMES};
+use maghnelt::{slices as library, MAX_FRAMES};
 
 /// What a call takes, and its output.
 #[derive(Clone)]
@@ -61,7 +61,7 @@ fn compare(call: &Call<'_, 4, 1>, generator: &mut Generator, count: u64, report:
         }
     }
     for _ in 0..10 {
-        every_pair(&FAULTS, accepted, generator, |case, _| {
+        every_pair(&faults(), accepted, generator, |case, _| {
             comparison.check(&case.lent(), report);
         });
     }
@@ -79,70 +79,24 @@ fn accepted(generator: &mut Generator) -> Case {
 }
 
 /// What a call can be refused for.
-const FAULTS: [Fault<Case>; 9] = [
-    Fault {
-        number: DOF,
-        make: |case, _| case.scene.dof = MAX_DOF + 1,
-    },
-    Fault {
-        number: DOF,
-        make: |case, generator| case.scene.dof = u32::MAX - generator.below(1 << 31) as u32,
-    },
-    Fault {
-        number: EMPTY_LIST,
-        make: |case, _| case.scene.frames.clear(),
-    },
-    // Not whole frames.
-    Fault {
-        number: LENGTH,
-        make: |case, generator| {
-            let wrong = case.scene.frames.len() + generator.pick(&[1, 2, CENTRED - 1]);
-            case.scene.frames.resize(wrong, 1.0);
-        },
-    },
-    // A frame too many, each with its action.
-    Fault {
-        number: LENGTH,
-        make: |case, _| {
-            case.scene.frames.resize(CENTRED * (MAX_FRAMES + 1), 1.0);
-            case.scene.actions.resize(ACTION * (MAX_FRAMES + 1), 1.0);
-        },
-    },
-    Fault {
-        number: LENGTH,
-        make: |case, generator| {
-            let wrong = [1, CENTRED - 1, CENTRED + 1, 2 * CENTRED];
-            case.scene.fixed.resize(generator.pick(&wrong), 1.0);
-        },
-    },
-    Fault {
-        number: LENGTH,
-        make: |case, generator| case.out = old(generator.pick(&[0, 3, 11, 13, 24]), generator),
-    },
-    Fault {
-        number: ACTIONS,
-        make: |case, generator| {
-            let right = ACTION * case.scene.len();
-            let wrong = [right + 1, right + ACTION, right + ACTION - 1];
-            let wrong = match generator.below(2) {
-                0 => generator.below(1 + right as u64) as usize,
-                _ => generator.pick(&wrong),
-            };
-            let wrong = if wrong == right { right + 2 } else { wrong };
-            case.scene.actions.resize(wrong, 1.0);
-        },
-    },
-    // As many numbers as frames have.
-    Fault {
-        number: ACTIONS,
-        make: |case, _| case.scene.actions.resize(case.scene.frames.len() + 1, 1.0),
-    },
-];
+fn faults() -> Vec<Fault<Case>> {
+    let of_scene = Scene::faults().into_iter();
+    let mut faults: Vec<_> = of_scene
+        .map(|fault| fault.within(|case: &mut Case| &mut case.scene))
+        .collect();
+    faults.push(Fault::new(LENGTH, |case: &mut Case, generator| {
+        case.out = old(generator.pick(&[0, 3, 11, 13, 24]), generator);
+    }));
+    faults
+}
 
 #[cfg(test)]
 mod tests {
     use super::*;
+    use crate::called::{answer, check_faults};
     use crate::model::{congruent, matrix, sum_from_zero, vector, Matrix, Vector};
+    use crate::model::{ACTIONS, DOF, EMPTY_LIST};
+    use maghnelt::ACTION;
     use model::{Action, Centred, Sets};
 
     fn mismatches(call: &Call<'_, 4, 1>) -> u64 {
@@ -165,33 +119,10 @@ mod tests {
     }
 
     #[test]
-    fn each_fault_is_refused_by_its_number_and_two_by_the_first() {
-        let mut generator = Generator::new(1);
-        let answer = |case: Case| {
-            let Lent {
-                mut numbers,
-                mut words,
-            } = case.lent();
-            right(
-                numbers.each_mut().map(Vec::as_mut_slice),
-                words.each_mut().map(Vec::as_mut_slice),
-            )
-        };
-        assert_eq!(answer(accepted(&mut generator)), 0);
-        for first in &FAULTS {
-            for second in &FAULTS {
-                let mut case = accepted(&mut generator);
-                (first.make)(&mut case, &mut generator);
-                if first.number == second.number {
-                    assert_eq!(answer(case), first.number);
-                    continue;
-                }
-                // An empty list may get frames again, and so may lengths be mended.
-                (second.make)(&mut case, &mut generator);
-                let number = answer(case);
-                assert!(number == first.number || number == second.number);
-            }
-        }
+    fn faults_are_refused_by_their_numbers() {
+        check_faults(&faults(), accepted, |case| {
+            answer(&model::fit_call(model::fit), case.lent())
+        });
     }
 
     #[test]

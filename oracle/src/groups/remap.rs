@@ -40,7 +40,7 @@ fn compare(call: &Call<'_, 0, 3>, generator: &mut Generator, count: u64, report:
         }
     }
     for _ in 0..20 {
-        every_pair(&FAULTS, accepted, generator, |case, _| {
+        every_pair(&faults(), accepted, generator, |case, _| {
             comparison.check(&case, report);
         });
     }
@@ -61,62 +61,39 @@ fn compare(call: &Call<'_, 0, 3>, generator: &mut Generator, count: u64, report:
 }
 
 /// What a call can be refused for.
-const FAULTS: [Fault<Case>; 6] = [
-    Fault {
-        number: LENGTH,
-        make: |case, generator| too_long(&mut case.words[MAP], generator),
-    },
-    Fault {
-        number: LENGTH,
-        make: |case, generator| {
+fn faults() -> Vec<Fault<Case>> {
+    vec![
+        Fault::new(LENGTH, |case: &mut Case, generator| {
+            too_long(&mut case.words[MAP], generator);
+        }),
+        Fault::new(LENGTH, |case: &mut Case, generator| {
             too_long(&mut case.words[LIST], generator);
             case.words[OUT] = old(case.words[LIST].len(), generator);
-        },
-    },
-    Fault {
-        number: LENGTH,
-        make: |case, generator| {
+        }),
+        Fault::new(LENGTH, |case: &mut Case, generator| {
             let right = case.words[LIST].len();
-            let wrong = [
-                0,
-                right + 1,
-                2 * right + 2,
-                right.saturating_sub(1),
-                MAX_WORDS,
-            ];
-            let wrong: Vec<usize> = wrong
-                .into_iter()
-                .filter(|&length| length != right)
-                .collect();
+            let wrong = [0, right + 1, 2 * right + 2, right.saturating_sub(1)];
+            let wrong: Vec<usize> = wrong.into_iter().filter(|&k| k != right).collect();
             case.words[OUT] = old(generator.pick(&wrong), generator);
-        },
-    },
-    Fault {
-        number: MAP_WORD,
-        make: |case, generator| bad_word(&mut case.words[MAP], generator),
-    },
-    Fault {
-        number: MAP_WORD,
-        make: |case, generator| {
+        }),
+        Fault::new(MAP_WORD, |case: &mut Case, generator| {
+            bad_word(&mut case.words[MAP], generator);
+        }),
+        Fault::new(MAP_WORD, |case: &mut Case, generator| {
             let same = case.words[OUT].len() == case.words[LIST].len();
             bad_word(&mut case.words[LIST], generator);
             if same {
                 case.words[OUT] = old(case.words[LIST].len(), generator);
             }
-        },
-    },
-    // A bad word at the end of the longest list that is allowed.
-    Fault {
-        number: MAP_WORD,
-        make: |case, _| {
-            let slice = &mut case.words[MAP];
-            if slice.len() <= MAX_WORDS {
-                slice.resize(MAX_WORDS, 0);
-                slice[MAX_WORDS - 1] = UNMAPPED + 1;
-            }
-        },
-    },
-];
+        }),
+        // At the end of the longest map that is allowed.
+        Fault::new(MAP_WORD, |case: &mut Case, _| {
+            let map = &mut case.words[MAP];
+            map.resize(map.len().max(MAX_WORDS), 0);
+            map[MAX_WORDS - 1] = UNMAPPED + 1;
+        }),
+    ]
+}
 
 fn too_long(slice: &mut Vec<u32>, generator: &mut Generator) {
     slice.resize(MAX_WORDS + generator.pick(&[1, 2, MAX_WORDS]), 0);
@@ -195,6 +172,7 @@ fn old(length: usize, generator: &mut Generator) -> Vec<u32> {
 #[cfg(test)]
 mod tests {
     use super::*;
+    use crate::called::{answer, check_faults};
     use model::Word;
 
     fn mismatches(call: &Call<'_, 0, 3>) -> u64 {
@@ -217,16 +195,10 @@ mod tests {
     }
 
     #[test]
-    fn each_fault_is_refused_by_its_number() {
-        let mut generator = Generator::new(1);
-        for fault in &FAULTS {
-            for _ in 0..50 {
-                let mut case = accepted(&mut generator);
-                (fault.make)(&mut case, &mut generator);
-                let [map, list, out] = &mut case.words;
-                assert_eq!(right(map, list, out), fault.number);
-            }
-        }
+    fn faults_are_refused_by_their_numbers() {
+        check_faults(&faults(), accepted, |case| {
+            answer(&model::remap_call(model::remapped), case)
+        });
     }
 
     #[test]

@@ -1,7 +1,11 @@
-//! The model of block maps.
+//! The model of block maps, and of what is added to a Hessian and a gradient through them.
 
-use super::{first, LENGTH, MAP_WORD};
+use super::{first, written, LENGTH, MAP_WORD};
 use maghnelt::{MAX_WORDS, UNMAPPED};
+use std::ops::Range;
+
+/// The largest order of a Hessian.
+pub const MAX_ORDER: usize = 1024;
 
 /// What a word of a map or of an index list says, by its top two bits.
 #[derive(Clone, Copy, Debug, PartialEq)]
@@ -54,5 +58,94 @@ pub fn remap_call(
             }
         }
         refusal
+    }
+}
+
+/// The offset of a frame, if the map has one for it.
+pub fn offset(map: &[u32], frame: usize) -> Option<usize> {
+    match Word::read(*map.get(frame)?) {
+        Word::At(offset) => Some(offset),
+        _ => None,
+    }
+}
+
+/// The rows of a frame, if it is mapped: dof rows from its offset on.
+pub fn segment(map: &[u32], frame: usize, dof: u32) -> Option<Range<usize>> {
+    let offset = offset(map, frame)?;
+    Some(offset..offset + dof as usize)
+}
+
+/// The lengths of the Hessian and of the gradient that a call is lent, which are all that it knows of them beforehand.
+#[derive(Clone, Copy)]
+pub struct Target {
+    /// The length of the Hessian.
+    pub hessian: usize,
+    /// The length of the gradient.
+    pub gradient: usize,
+}
+
+impl Target {
+    /// Reason 3 of Hessian, gradient and map.
+    pub fn bad_lengths(self, map: &[u32]) -> bool {
+        let order = self.gradient;
+        order > MAX_ORDER || self.hessian != order * order || map.len() > MAX_WORDS
+    }
+
+    /// Reason 10: the segment of one of the first frames goes past the end.
+    pub fn exceeded(self, map: &[u32], frames: usize, dof: u32) -> bool {
+        (0..frames)
+            .filter_map(|frame| segment(map, frame, dof))
+            .any(|segment| segment.end > self.gradient)
+    }
+}
+
+/// A cell of the gradient or of the Hessian.
+#[derive(Clone, Copy, Debug, PartialEq)]
+pub enum Cell {
+    /// By row and column.
+    Hessian(usize, usize),
+    /// By row.
+    Gradient(usize),
+}
+
+/// What an accepted call works out from its own inputs: its cost, and the terms that it adds to cells, in order.
+pub struct Work {
+    /// The cost.
+    pub cost: f64,
+    /// The terms.
+    pub terms: Vec<(Cell, f64)>,
+}
+
+impl Work {
+    /// Adds the terms of a block and a vector, at a segment.
+    pub fn add(
+        &mut self,
+        segment: Range<usize>,
+        h: impl Fn(usize, usize) -> f64,
+        g: impl Fn(usize) -> f64,
+    ) {
+        let from = segment.start;
+        for j in 0..segment.len() {
+            for i in 0..segment.len() {
+                self.terms
+                    .push((Cell::Hessian(from + i, from + j), h(i, j)));
+            }
+        }
+        for i in 0..segment.len() {
+            self.terms.push((Cell::Gradient(from + i), g(i)));
+        }
+    }
+
+    /// Adds the terms to the cells, each sum rounded once, and writes the cost.
+    pub fn write(&self, hessian: &mut [f64], gradient: &mut [f64], cost: &mut f64) {
+        let order = gradient.len();
+        for &(cell, term) in &self.terms {
+            let cell = match cell {
+                Cell::Hessian(row, column) => &mut hessian[column * order + row],
+                Cell::Gradient(row) => &mut gradient[row],
+            };
+            *cell = written(*cell + term);
+        }
+        *cost = written(self.cost);
     }
 }

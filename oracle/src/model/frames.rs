@@ -1,11 +1,13 @@
 //! The model of the calls on frames of one plane.
 
-use super::moments::{mean_and_scatter, Moments};
+use super::blocks::{bad_word, segment, Target, Work};
+use super::moments::{mean_and_scatter, Decomposition, Moments};
 use super::{
-    congruent, dot, first, matrix, store_matrix, stored_matrix, stored_vector, sum_from_zero,
-    vector, written, Matrix, Vector, ACTIONS, DOF, EMPTY_LIST, LENGTH, MAX_DOF,
+    bad_sigma, congruent, dot, first, matrix, store_matrix, stored_matrix, stored_vector, sum,
+    sum_from_zero, vector, written, Matrix, Vector, ACTIONS, DOF, EMPTY_LIST, FRAME_COUNT, LENGTH,
+    MAP_WORD, MAX_DOF, NOT_FINITE, SEGMENT, SIGMA, TOTAL_COUNT,
 };
-use maghnelt::{ACTION, CENTRED, MAX_FRAMES};
+use maghnelt::{ACTION, CENTRED, DECOMPOSITION, MAX_FRAMES, MOMENTS};
 
 /// A set of points centred on their mean.
 #[derive(Clone, Copy)]
@@ -165,5 +167,578 @@ pub fn fit_call(
             store_matrix(scatter.map(|row| row.map(written)), &mut out[3..]);
         }
         refusal
+    }
+}
+
+/// What a build answers.
+pub struct Built {
+    /// The frames, centred.
+    pub frames: Vec<Centred>,
+    /// The fixed set, centred, if it is kept.
+    pub fixed: Option<Centred>,
+    /// The number of points.
+    pub points: f64,
+    /// Whether a fixed set was dropped.
+    pub dropped: bool,
+}
+
+/// `LidarPlaneMomentFactor::new` on what passed its tests. A fixed set of count at or below 0 is dropped.
+pub fn built(frames: &[Moments], fixed: Option<Moments>) -> Built {
+    let centre = |moments: &Moments| centred(*moments).expect("tests 4 and 6 leave a mean");
+    let kept = fixed.as_ref().and_then(|fixed| centred(*fixed));
+    Built {
+        frames: frames.iter().map(centre).collect(),
+        fixed: kept,
+        points: sum(frames.iter().map(|frame| frame.count)) + kept.map_or(0.0, |fixed| fixed.count),
+        dropped: fixed.is_some() && kept.is_none(),
+    }
+}
+
+/// The call `frames_build` on frames, fixed, sigma, their outputs and the points, with the dof and `fixed_dropped`.
+pub fn build_call(
+    refusal: impl Fn(u32, [&[f64]; 2], f64, [usize; 2]) -> u32,
+    built: impl Fn(&[Moments], Option<Moments>) -> Built,
+) -> impl Fn([&mut [f64]; 6], [&mut [u32]; 2]) -> u32 {
+    move |[frames, fixed, sigma, of_frames, of_fixed, points], [dof, dropped]| {
+        let outputs = [of_frames.len(), of_fixed.len()];
+        let refusal = refusal(dof[0], [frames, fixed], sigma[0], outputs);
+        if refusal == 0 {
+            let frames: Vec<Moments> = frames.chunks(MOMENTS).map(Moments::read).collect();
+            let fixed = (!fixed.is_empty()).then(|| Moments::read(fixed));
+            let built = built(&frames, fixed);
+            for (frame, out) in built.frames.iter().zip(of_frames.chunks_mut(CENTRED)) {
+                frame.write(out);
+            }
+            if let Some(fixed) = built.fixed {
+                fixed.write(of_fixed);
+            }
+            points[0] = written(built.points);
+            dropped[0] = built.dropped.into();
+        }
+        refusal
+    }
+}
+
+/// Why a build is refused: tests 1 to 7, of dof, frames and fixed set, sigma, and the lengths of both outputs.
+pub fn build_refusal(
+    dof: u32,
+    [frames, fixed]: [&[f64]; 2],
+    sigma: f64,
+    outputs: [usize; 2],
+) -> u32 {
+    let records = || frames.chunks_exact(MOMENTS);
+    let right = [
+        frames.len() / MOMENTS * CENTRED,
+        fixed.len() / MOMENTS * CENTRED,
+    ];
+    let lengths = bad_frames(frames, MOMENTS) || bad_fixed(fixed, MOMENTS) || outputs != right;
+    let total = sum(records().map(|record| record[0])) + fixed.first().unwrap_or(&0.0);
+    first(&[
+        (DOF, dof > MAX_DOF),
+        (EMPTY_LIST, frames.is_empty()),
+        (LENGTH, lengths),
+        (FRAME_COUNT, records().any(|record| record[0] <= 0.0)),
+        (TOTAL_COUNT, total < 3.0),
+        (
+            NOT_FINITE,
+            [frames, fixed].concat().iter().any(|x| !x.is_finite()),
+        ),
+        (SIGMA, bad_sigma(sigma)),
+    ])
+}
+
+/// A fitted plane.
+#[derive(Clone, Copy)]
+pub struct Plane {
+    /// The normal.
+    pub normal: Vector,
+    /// The offset.
+    pub offset: f64,
+}
+
+impl Plane {
+    /// The distance of a point.
+    pub fn along(&self, point: Vector) -> f64 {
+        dot(self.normal, point) + self.offset
+    }
+}
+
+/// `smallest_axis`: a plane exactly if gap > 1e-14·max(|third|, 1), a NaN counting as 1 in the maximum.
+pub fn smallest_axis(decomposition: &Decomposition, mean: Vector) -> Option<Plane> {
+    let order = decomposition.order();
+    let [least, second, third] = order.map(|k| f64::from_bits(decomposition.eigenvalues[k]));
+    let normal = decomposition.vectors[order[0]];
+    // `f64::max` takes the other one for a NaN.
+    (second - least > 1e-14 * third.abs().max(1.0)).then(|| Plane {
+        normal,
+        offset: -dot(normal, mean),
+    })
+}
+
+/// The derivatives of Aᵀ·n, `d[k][c]`, and of the distance of a point p, `m[c]`.
+pub struct Derivatives {
+    /// By axis and column.
+    pub d: [[f64; 9]; 3],
+    /// By column.
+    pub m: [f64; 9],
+}
+
+/// D(k,c) = Σ n·axes_k, and m = ((n·origin + D(0,c)·p_0) + D(1,c)·p_1) + D(2,c)·p_2.
+pub fn derivatives(action: &Action, n: Vector, p: Vector) -> Derivatives {
+    let d = action
+        .axes
+        .map(|columns| columns.map(|column| dot(n, column)));
+    let m = std::array::from_fn(|c| {
+        let origin = dot(n, action.origin[c]);
+        ((origin + d[0][c] * p[0]) + d[1][c] * p[1]) + d[2][c] * p[2]
+    });
+    Derivatives { d, m }
+}
+
+/// What one frame adds: its cost, the block and the vector.
+pub struct FrameTerms {
+    /// The cost.
+    pub cost: f64,
+    /// The block, by row and column.
+    pub h: [[f64; 9]; 9],
+    /// The vector.
+    pub g: [f64; 9],
+}
+
+/// What one frame adds under a plane.
+pub fn frame_terms(frame: &Centred, action: &Action, plane: &Plane, weight: f64) -> FrameTerms {
+    let Centred {
+        count,
+        mean,
+        scatter: s,
+    } = *frame;
+    let a_n = vector(|c| dot(vector(|r| action.a[r][c]), plane.normal));
+    let s_an = vector(|r| dot(s[r], a_n));
+    let along = plane.along(action.carried(mean));
+    let Derivatives { d, m } = derivatives(action, plane.normal, mean);
+    let column = |c: usize| vector(|l| d[l][c]);
+    let p: [Vector; 9] = std::array::from_fn(|i| vector(|k| dot(column(i), vector(|l| s[l][k]))));
+    FrameTerms {
+        cost: (dot(a_n, s_an) + (count * along) * along) * weight,
+        h: std::array::from_fn(|i| {
+            std::array::from_fn(|j| (dot(p[i], column(j)) + (m[i] * m[j]) * count) * weight)
+        }),
+        g: std::array::from_fn(|i| (dot(column(i), s_an) + m[i] * (count * along)) * weight),
+    }
+}
+
+/// What the fixed set costs.
+pub fn fixed_cost(fixed: &Centred, plane: &Plane, weight: f64) -> f64 {
+    let n = plane.normal;
+    let along = plane.along(fixed.mean);
+    let spread = dot(n, vector(|r| dot(fixed.scatter[r], n)));
+    (spread + (fixed.count * along) * along) * weight
+}
+
+/// What `frames_accumulate` takes, its Hessian and gradient apart.
+pub struct Accumulate<'a> {
+    /// The number of parameters.
+    pub dof: u32,
+    /// The centred frames.
+    pub frames: &'a [f64],
+    /// The fixed set, or nothing.
+    pub fixed: &'a [f64],
+    /// The standard deviation.
+    pub sigma: f64,
+    /// The actions.
+    pub actions: &'a [f64],
+    /// The fit's decomposition.
+    pub decomposition: &'a [f64],
+    /// The block map.
+    pub map: &'a [u32],
+}
+
+impl Accumulate<'_> {
+    /// Tests 1, 2, 3, 7, 8, 9, 10.
+    pub fn refusal(&self, target: Target) -> u32 {
+        let lengths = bad_frames(self.frames, CENTRED)
+            || bad_fixed(self.fixed, CENTRED)
+            || self.decomposition.len() != DECOMPOSITION
+            || target.bad_lengths(self.map);
+        let frames = self.frames.len() / CENTRED;
+        first(&[
+            (DOF, self.dof > MAX_DOF),
+            (EMPTY_LIST, self.frames.is_empty()),
+            (LENGTH, lengths),
+            (SIGMA, bad_sigma(self.sigma)),
+            (ACTIONS, bad_actions(self.actions, self.frames)),
+            (MAP_WORD, bad_word(self.map)),
+            (SEGMENT, target.exceeded(self.map, frames, self.dof)),
+        ])
+    }
+
+    /// The sets that it reads.
+    pub fn sets(&self) -> Sets {
+        Sets::read(self.frames, self.fixed, self.actions)
+    }
+
+    /// The fitted plane, or none.
+    pub fn plane(&self) -> Option<Plane> {
+        smallest_axis(
+            &Decomposition::read(self.decomposition),
+            fit_mean(&self.sets()),
+        )
+    }
+
+    /// What it works out when it is accepted: without a plane a cost of 0 and no term.
+    pub fn work(&self) -> Work {
+        let mut work = Work {
+            cost: 0.0,
+            terms: Vec::new(),
+        };
+        let Some(plane) = self.plane() else {
+            return work;
+        };
+        let weight = 1.0 / (self.sigma * self.sigma);
+        let sets = self.sets();
+        for (k, (frame, action)) in sets.frames.iter().enumerate() {
+            let FrameTerms { cost, h, g } = frame_terms(frame, action, &plane, weight);
+            work.cost += cost;
+            if let Some(segment) = segment(self.map, k, self.dof) {
+                work.add(segment, |i, j| h[i][j], |i| g[i]);
+            }
+        }
+        if let Some(fixed) = &sets.fixed {
+            work.cost += fixed_cost(fixed, &plane, weight);
+        }
+        work
+    }
+}
+
+/// The call `frames_accumulate` on frames, fixed, sigma, actions, decomposition, Hessian, gradient and cost, with dof and
+/// map.
+pub fn accumulate_call(
+    refusal: impl Fn(&Accumulate, Target) -> u32,
+    work: impl Fn(&Accumulate) -> Work,
+) -> impl Fn([&mut [f64]; 8], [&mut [u32]; 2]) -> u32 {
+    move |[frames, fixed, sigma, actions, decomposition, hessian, gradient, cost], [dof, map]| {
+        let inputs = Accumulate {
+            dof: dof[0],
+            frames,
+            fixed,
+            sigma: sigma[0],
+            actions,
+            decomposition,
+            map,
+        };
+        let target = Target {
+            hessian: hessian.len(),
+            gradient: gradient.len(),
+        };
+        let refusal = refusal(&inputs, target);
+        if refusal == 0 {
+            work(&inputs).write(hessian, gradient, &mut cost[0]);
+        }
+        refusal
+    }
+}
+
+/// What `frames_linearize` takes.
+pub struct Linearize<'a> {
+    /// The number of parameters.
+    pub dof: u32,
+    /// The centred frames.
+    pub frames: &'a [f64],
+    /// The fixed set, or nothing.
+    pub fixed: &'a [f64],
+    /// The standard deviation.
+    pub sigma: f64,
+    /// The actions.
+    pub actions: &'a [f64],
+    /// The decompositions of the fit, of each frame, and of the fixed set.
+    pub decompositions: &'a [f64],
+}
+
+/// Residuals, and the Jacobian's entries by row and column.
+pub struct Rows {
+    /// Four a frame and four for the fixed set.
+    pub residual: Vec<f64>,
+    /// The entries, as many rows as residuals.
+    pub jacobian: Vec<Vec<f64>>,
+}
+
+/// `Centred::root`: row k is vector k times the square root of the eigenvalue, one below 0 or NaN taken as +0.
+pub fn root(decomposition: &Decomposition) -> Matrix<3> {
+    let scale = decomposition.eigenvalues.map(|bits| {
+        let value = f64::from_bits(bits);
+        if value > 0.0 {
+            value.sqrt()
+        } else {
+            0.0
+        }
+    });
+    matrix(|k, c| decomposition.vectors[k][c] * scale[k])
+}
+
+impl Linearize<'_> {
+    /// Tests 1, 2, 3, 7, 8; `residual` and `jacobian` are lengths.
+    pub fn refusal(&self, residual: usize, jacobian: usize) -> u32 {
+        let frames = self.frames.len() / CENTRED;
+        let rows = 4 * frames + 4;
+        let decompositions = 1 + frames + usize::from(!self.fixed.is_empty());
+        let columns = frames * self.dof as usize;
+        let lengths = bad_frames(self.frames, CENTRED)
+            || bad_fixed(self.fixed, CENTRED)
+            || self.decompositions.len() != decompositions * DECOMPOSITION
+            || residual != rows
+            || jacobian != 0 && jacobian != rows * columns;
+        first(&[
+            (DOF, self.dof > MAX_DOF),
+            (EMPTY_LIST, self.frames.is_empty()),
+            (LENGTH, lengths),
+            (SIGMA, bad_sigma(self.sigma)),
+            (ACTIONS, bad_actions(self.actions, self.frames)),
+        ])
+    }
+
+    /// The rows when it is accepted: without a plane all +0.
+    pub fn rows(&self) -> Rows {
+        let sets = Sets::read(self.frames, self.fixed, self.actions);
+        let decompositions: Vec<Decomposition> = self
+            .decompositions
+            .chunks(DECOMPOSITION)
+            .map(Decomposition::read)
+            .collect();
+        let (frames, dof) = (sets.frames.len(), self.dof as usize);
+        let rows = 4 * frames + 4;
+        let mut out = Rows {
+            residual: vec![0.0; rows],
+            jacobian: vec![vec![0.0; frames * dof]; rows],
+        };
+        let Some(plane) = smallest_axis(&decompositions[0], fit_mean(&sets)) else {
+            return out;
+        };
+        let information = 1.0 / self.sigma;
+        let n = plane.normal;
+        for (f, (frame, action)) in sets.frames.iter().enumerate() {
+            let root = root(&decompositions[1 + f]);
+            let a_n = vector(|c| dot(vector(|r| action.a[r][c]), n));
+            let along = plane.along(action.carried(frame.mean));
+            let Derivatives { d, m } = derivatives(action, n, frame.mean);
+            for k in 0..3 {
+                out.residual[4 * f + k] = dot(root[k], a_n) * information;
+                for c in 0..dof {
+                    let entry = dot(root[k], vector(|l| d[l][c])) * information;
+                    out.jacobian[4 * f + k][f * dof + c] = entry;
+                }
+            }
+            out.residual[4 * f + 3] = (frame.count.sqrt() * along) * information;
+            for c in 0..dof {
+                out.jacobian[4 * f + 3][f * dof + c] = (frame.count.sqrt() * m[c]) * information;
+            }
+        }
+        if let Some(fixed) = &sets.fixed {
+            let root = root(&decompositions[1 + frames]);
+            for k in 0..3 {
+                out.residual[4 * frames + k] = dot(root[k], n) * information;
+            }
+            let along = plane.along(fixed.mean);
+            out.residual[4 * frames + 3] = (fixed.count.sqrt() * along) * information;
+        }
+        out
+    }
+}
+
+/// The call `frames_linearize` on frames, fixed, sigma, actions, decompositions, residual and Jacobian, with the dof.
+pub fn linearize_call(
+    refusal: impl Fn(&Linearize, usize, usize) -> u32,
+    rows: impl Fn(&Linearize) -> Rows,
+) -> impl Fn([&mut [f64]; 7], [&mut [u32]; 1]) -> u32 {
+    move |[frames, fixed, sigma, actions, decompositions, residual, jacobian], [dof]| {
+        let inputs = Linearize {
+            dof: dof[0],
+            frames,
+            fixed,
+            sigma: sigma[0],
+            actions,
+            decompositions,
+        };
+        let refusal = refusal(&inputs, residual.len(), jacobian.len());
+        if refusal == 0 {
+            rows(&inputs).write(residual, jacobian);
+        }
+        refusal
+    }
+}
+
+impl Rows {
+    /// Writes residuals and, where it is wanted, the Jacobian, column after column.
+    pub fn write(&self, residual: &mut [f64], jacobian: &mut [f64]) {
+        let rows = residual.len();
+        for (row, number) in residual.iter_mut().enumerate() {
+            *number = written(self.residual[row]);
+        }
+        for (place, entry) in jacobian.iter_mut().enumerate() {
+            *entry = written(self.jacobian[place % rows][place / rows]);
+        }
+    }
+}
+
+#[cfg(test)]
+mod tests {
+    use super::*;
+    use crate::draws::within;
+    use crate::generator::Generator;
+    use crate::model::blocks::Cell;
+    use crate::scenes::{decomposition_of, Scene};
+
+    /// One frame of four points, moved along the normal by its one parameter and turned by it too.
+    fn whole_numbers(action: &mut [f64; ACTION]) -> [f64; CENTRED] {
+        for place in [0, 4, 8] {
+            action[place] = 1.0;
+        }
+        action[12] = 3.0;
+        action[39] = 1.0;
+        [
+            4.0, 1.0, 1.0, 0.0, 4.0, 0.0, 0.0, 0.0, 4.0, 0.0, 0.0, 0.0, 0.0,
+        ]
+    }
+
+    const UNIT: [f64; 9] = [1.0, 0.0, 0.0, 0.0, 1.0, 0.0, 0.0, 0.0, 1.0];
+
+    fn with_values(values: [f64; 3]) -> Vec<f64> {
+        [&values[..], &UNIT].concat()
+    }
+
+    #[test]
+    fn a_case_in_whole_numbers() {
+        let mut action = [0.0; ACTION];
+        let frame = whole_numbers(&mut action);
+        let fit = with_values([0.0, 1.0, 2.0]);
+        let inputs = Accumulate {
+            dof: 1,
+            frames: &frame,
+            fixed: &[],
+            sigma: 0.5,
+            actions: &action,
+            decomposition: &fit,
+            map: &[0],
+        };
+        let work = inputs.work();
+        assert_eq!(work.cost, 16.0);
+        let terms = [(Cell::Hessian(0, 0), 272.0), (Cell::Gradient(0), 16.0)];
+        assert_eq!(work.terms, terms);
+        let rows = Linearize {
+            dof: 1,
+            frames: &frame,
+            fixed: &[],
+            sigma: 0.5,
+            actions: &action,
+            decompositions: &[fit, with_values([4.0, 4.0, 0.0])].concat(),
+        }
+        .rows();
+        assert_eq!(rows.residual, [4.0, 0.0, 0.0, 0.0, 0.0, 0.0, 0.0, 0.0]);
+        let column: Vec<f64> = rows.jacobian.iter().map(|row| row[0]).collect();
+        assert_eq!(column, [4.0, 0.0, 0.0, 16.0, 0.0, 0.0, 0.0, 0.0]);
+    }
+
+    #[test]
+    fn the_gap_counts_by_the_third_eigenvalue() {
+        let plane = |values: [f64; 3]| {
+            smallest_axis(&Decomposition::read(&with_values(values)), [1.0, 2.0, 3.0])
+        };
+        assert_eq!(plane([1.0, 1.0, 0.0]).unwrap().normal, [0.0, 0.0, 1.0]);
+        assert!(plane([0.0, 1e-12, 200.0]).is_none());
+        assert!(plane([-0.0, 0.0, 1.0]).is_none());
+        assert!(plane([0.0, 1e-14, 1.0]).is_none());
+        assert!(plane([0.0, 1.1e-14, 0.1]).is_some());
+        // A NaN that sorts last counts as 1, and one that sorts first makes the gap a NaN.
+        assert!(plane([0.0, 1.0, f64::NAN]).is_some());
+        assert!(plane([0.0, 1.0, -f64::NAN]).is_none());
+        assert!(plane([f64::INFINITY; 3]).is_none());
+    }
+
+    /// What the rows sum to is what accumulating adds, but for rounding.
+    #[test]
+    fn accumulated_is_what_the_rows_sum_to() {
+        let mut generator = Generator::new(1);
+        for _ in 0..200 {
+            let scene = Scene::of_a_wall(4, &mut generator);
+            let sets = Sets::read(&scene.frames, &scene.fixed, &scene.actions);
+            let sigma = within(0.5, 2.0, &mut generator);
+            let width = scene.dof as usize;
+            let map: Vec<u32> = (0..4).map(|k| k * scene.dof).collect();
+            let mut decompositions = decomposition_of(fit(&sets).1).to_vec();
+            let frames = sets.frames.iter().map(|(frame, _)| frame);
+            for set in frames.chain(&sets.fixed) {
+                decompositions.extend(decomposition_of(set.scatter));
+            }
+            let work = Accumulate {
+                dof: scene.dof,
+                frames: &scene.frames,
+                fixed: &scene.fixed,
+                sigma,
+                actions: &scene.actions,
+                decomposition: &decompositions[..DECOMPOSITION],
+                map: &map,
+            }
+            .work();
+            let rows = Linearize {
+                dof: scene.dof,
+                frames: &scene.frames,
+                fixed: &scene.fixed,
+                sigma,
+                actions: &scene.actions,
+                decompositions: &decompositions,
+            }
+            .rows();
+            let column = |c: usize| rows.jacobian.iter().map(move |row| row[c]);
+            let close = |a: f64, b: f64, size: f64| (a - b).abs() <= 1e-9 * size;
+            let squares = |c: usize| column(c).map(|x| x * x).sum::<f64>();
+            let residuals: f64 = rows.residual.iter().map(|r| r * r).sum();
+            assert!(close(work.cost, residuals, 1.0 + residuals));
+            assert_eq!(work.terms.len(), 4 * (width * width + width));
+            for (cell, term) in work.terms {
+                let (sum, size) = match cell {
+                    Cell::Hessian(i, j) => (
+                        column(i).zip(column(j)).map(|(x, y)| x * y).sum::<f64>(),
+                        (squares(i) * squares(j)).sqrt(),
+                    ),
+                    Cell::Gradient(i) => (
+                        column(i).zip(&rows.residual).map(|(x, r)| x * r).sum(),
+                        (squares(i) * residuals).sqrt(),
+                    ),
+                };
+                assert!(close(term, sum, 1.0 + size), "{cell:?}: {term} and {sum}");
+            }
+        }
+    }
+
+    #[test]
+    fn counts_of_a_build() {
+        let record = |count: f64| {
+            let mut record = [0.0; MOMENTS];
+            record[0] = count;
+            record
+        };
+        let refusal = |frames: &[f64], fixed: &[f64]| {
+            build_refusal(6, [frames, fixed], 1.0, [frames.len(), fixed.len()])
+        };
+        // Worked cases h, i and j.
+        assert_eq!(refusal(&record(5.0), &record(-1.0)), 0);
+        assert_eq!(refusal(&record(5.0), &record(-3.0)), TOTAL_COUNT);
+        assert_eq!(refusal(&record(2.0), &record(1.0)), 0);
+        assert_eq!(refusal(&record(2.0), &record(0.5)), TOTAL_COUNT);
+        assert_eq!(refusal(&record(-0.0), &record(9.0)), FRAME_COUNT);
+        assert_eq!(refusal(&record(f64::NAN), &[]), NOT_FINITE);
+        assert_eq!(
+            refusal(&record(f64::INFINITY), &record(f64::NEG_INFINITY)),
+            NOT_FINITE
+        );
+        assert_eq!(
+            refusal(&record(5.0), &record(f64::NEG_INFINITY)),
+            TOTAL_COUNT
+        );
+        let built = built(
+            &[Moments::read(&record(5.0))],
+            Some(Moments::read(&record(-1.0))),
+        );
+        assert_eq!(built.points, 5.0);
+        assert!(built.dropped);
     }
 }

@@ -5,6 +5,7 @@
 
 pub mod blocks;
 pub mod frames;
+pub mod matches;
 pub mod moments;
 pub mod plane;
 
@@ -14,10 +15,20 @@ pub const DOF: u32 = 1;
 pub const EMPTY_LIST: u32 = 2;
 /// The reason for a slice of a wrong length.
 pub const LENGTH: u32 = 3;
+/// The reason for a frame without points.
+pub const FRAME_COUNT: u32 = 4;
+/// The reason for too few points in all.
+pub const TOTAL_COUNT: u32 = 5;
+/// The reason for a moment or a coordinate that is not finite.
+pub const NOT_FINITE: u32 = 6;
+/// The reason for a sigma that is not finite and positive.
+pub const SIGMA: u32 = 7;
 /// The reason for actions of a wrong length.
 pub const ACTIONS: u32 = 8;
 /// The reason for a bad word in a block map.
 pub const MAP_WORD: u32 = 9;
+/// The reason for a segment past the end.
+pub const SEGMENT: u32 = 10;
 /// The reason for a normal without a usable length.
 pub const NORMAL: u32 = 11;
 /// The reason for a variance that is not finite and positive.
@@ -42,6 +53,11 @@ pub fn written(x: f64) -> f64 {
 pub fn first(reasons: &[(u32, bool)]) -> u32 {
     let reason = reasons.iter().find(|(_, applies)| *applies);
     reason.map_or(0, |(number, _)| *number)
+}
+
+/// Reason 7: sigma is not finite and positive.
+pub fn bad_sigma(sigma: f64) -> bool {
+    !(sigma.is_finite() && sigma > 0.0)
 }
 
 /// Three numbers.

@@ -51,7 +51,8 @@ pub struct Decomposition {
 }
 
 impl Decomposition {
-    fn read(stored: &[f64]) -> Decomposition {
+    /// What twelve numbers hold.
+    pub fn read(stored: &[f64]) -> Decomposition {
         Decomposition {
             eigenvalues: std::array::from_fn(|k| stored[k].to_bits()),
             vectors: std::array::from_fn(|k| stored_vector(&stored[3 + 3 * k..])),
