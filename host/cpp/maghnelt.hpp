@@ -1,0 +1,275 @@
+// The C interface of Maghnelt for programs that use Eigen: the functions of maghnelt.h, with vectors and matrices in place of
+// pointers and lengths. Needs C++17, maghnelt.h and Eigen 3; there is nothing to link besides the library.
+//
+// Numbers lie in Eigen's own order, by columns, so that nothing is turned round: a list of records is a matrix with a record a
+// column, and what is handed to the library are the maps' own numbers. A call that is turned away throws `maghnelt::Refused`
+// with the reason's number, and has then written nothing. Where there is simply no answer, it is an empty `std::optional`.
+#ifndef MAGHNELT_HPP
+#define MAGHNELT_HPP
+
+#include <maghnelt.h>
+
+#include <Eigen/Core>
+#include <Eigen/Eigenvalues>
+
+#include <cstddef>
+#include <cstdint>
+#include <optional>
+#include <stdexcept>
+#include <string>
+#include <vector>
+
+namespace maghnelt {
+
+// Why a call was turned away: `reason()` is the number in docs of the C header.
+class Refused : public std::runtime_error {
+  public:
+    explicit Refused(std::uint32_t reason)
+        : std::runtime_error("maghnelt: refused by reason " + std::to_string(reason)), number(reason) {}
+    std::uint32_t reason() const noexcept { return number; }
+
+  private:
+    std::uint32_t number;
+};
+
+using Matrix36 = Eigen::Matrix<double, 3, 6>;
+using Matrix66 = Eigen::Matrix<double, 6, 6>;
+// A point a column.
+using Points = Eigen::Matrix<double, 3, Eigen::Dynamic>;
+
+namespace detail {
+
+inline void accept(std::uint32_t answer) {
+    if (answer != 0) {
+        throw Refused(answer);
+    }
+}
+
+// The library takes no null, also where a length is 0; Eigen's data() of an empty matrix is one.
+template <typename Number> Number *given(Number *data) {
+    static double nothing = 0.0;
+    return data != nullptr ? data : reinterpret_cast<Number *>(&nothing);
+}
+
+template <typename Lent> std::size_t length(const Lent &lent) { return static_cast<std::size_t>(lent.size()); }
+
+} // namespace detail
+
+// A slice is a pointer and then a length.
+#define MAGHNELT_LENT(lent) ::maghnelt::detail::given((lent).data()), ::maghnelt::detail::length(lent)
+
+// ---- leaves ----
+
+inline double sqrt(double x) noexcept { return maghnelt_sqrt(x); }
+inline std::int64_t total_order_key(std::uint64_t bits) noexcept { return maghnelt_total_order_key(bits); }
+
+// ---- decompositions: three eigenvalues, then their vectors ----
+
+class Decomposition {
+  public:
+    using Record = Eigen::Matrix<double, MAGHNELT_DECOMPOSITION, 1>;
+
+    // Eigenvalues and vectors in any order, used as they come.
+    Decomposition(const Eigen::Vector3d &values, const Eigen::Matrix3d &vectors) {
+        numbers << values, Eigen::Map<const Eigen::Matrix<double, 9, 1>>(vectors.data());
+    }
+
+    // Eigen's decomposition of a symmetric matrix.
+    static Decomposition of(const Eigen::Matrix3d &symmetric) {
+        const Eigen::SelfAdjointEigenSolver<Eigen::Matrix3d> solver(symmetric);
+        return Decomposition(solver.eigenvalues(), solver.eigenvectors());
+    }
+
+    Eigen::Map<const Eigen::Vector3d> values() const { return Eigen::Map<const Eigen::Vector3d>(numbers.data()); }
+    Eigen::Map<const Eigen::Matrix3d> vectors() const { return Eigen::Map<const Eigen::Matrix3d>(numbers.data() + 3); }
+    const Record &record() const { return numbers; }
+
+  private:
+    Record numbers;
+};
+
+// ---- planes ----
+
+struct Plane {
+    Eigen::Vector3d normal;
+    double offset;
+
+    // The plane of a normal of any length.
+    static Plane of(const Eigen::Vector3d &normal, double offset) {
+        Eigen::Vector4d plane;
+        detail::accept(maghnelt_plane_new(MAGHNELT_LENT(normal), offset, MAGHNELT_LENT(plane)));
+        return {plane.head<3>(), plane[3]};
+    }
+};
+
+// The standard deviation of a point's distance from a plane.
+inline double point_to_plane_sigma(const Plane &plane, const Eigen::Vector3d &centroid, const Matrix66 &plane_covariance,
+                                   const Eigen::Matrix3d &point_covariance, const Eigen::Vector3d &world,
+                                   const Eigen::Matrix3d &d_world_d_point) {
+    Eigen::Vector4d numbers;
+    numbers << plane.normal, plane.offset;
+    double sigma = 0.0;
+    detail::accept(maghnelt_point_to_plane_sigma(MAGHNELT_LENT(numbers), MAGHNELT_LENT(centroid), MAGHNELT_LENT(plane_covariance),
+                                                 MAGHNELT_LENT(point_covariance), MAGHNELT_LENT(world),
+                                                 MAGHNELT_LENT(d_world_d_point), &sigma));
+    return sigma;
+}
+
+// ---- moments: how many points, their sum, and the sum of their outer products ----
+
+struct MeanAndScatter {
+    Eigen::Vector3d mean;
+    Eigen::Matrix3d scatter;
+};
+
+struct FittedPlane {
+    Plane plane;
+    Eigen::Vector3d eigenvalues;
+};
+
+// A set of moments a column.
+using MomentsList = Eigen::Matrix<double, MAGHNELT_MOMENTS, Eigen::Dynamic>;
+
+class Moments {
+  public:
+    using Record = Eigen::Matrix<double, MAGHNELT_MOMENTS, 1>;
+
+    // The empty set.
+    Moments() : numbers(Record::Zero()) {}
+    // A record that was stored, taken as it comes.
+    explicit Moments(const Record &record) : numbers(record) {}
+
+    static Moments from_points(const Points &points) {
+        Moments moments;
+        detail::accept(maghnelt_moments_from_points(MAGHNELT_LENT(points), MAGHNELT_LENT(moments.numbers)));
+        return moments;
+    }
+
+    void push(const Eigen::Vector3d &point) {
+        detail::accept(maghnelt_moments_push(MAGHNELT_LENT(numbers), MAGHNELT_LENT(point)));
+    }
+
+    void merge(const Moments &other) {
+        // The library lends the one for writing, so that a set merged with itself needs a copy.
+        const Record copy = other.numbers;
+        detail::accept(maghnelt_moments_merge(MAGHNELT_LENT(numbers), MAGHNELT_LENT(copy)));
+    }
+
+    // The moments of the points carried by p -> a p + b.
+    Moments transformed(const Eigen::Matrix3d &a, const Eigen::Vector3d &b) const {
+        Moments moved;
+        detail::accept(
+            maghnelt_moments_transformed(MAGHNELT_LENT(numbers), MAGHNELT_LENT(a), MAGHNELT_LENT(b), MAGHNELT_LENT(moved.numbers)));
+        return moved;
+    }
+
+    std::optional<MeanAndScatter> mean_and_scatter() const {
+        Eigen::Matrix<double, 3, 4> out;
+        std::uint32_t found = 0;
+        detail::accept(maghnelt_moments_mean_and_scatter(MAGHNELT_LENT(numbers), MAGHNELT_LENT(out), &found));
+        if (found == 0) {
+            return std::nullopt;
+        }
+        return MeanAndScatter{out.col(0), out.rightCols<3>()};
+    }
+
+    // The plane of least scatter, by the decomposition of the scatter.
+    std::optional<FittedPlane> plane(const Decomposition &decomposition) const {
+        Eigen::Matrix<double, 7, 1> out;
+        std::uint32_t found = 0;
+        detail::accept(
+            maghnelt_moments_plane(MAGHNELT_LENT(numbers), MAGHNELT_LENT(decomposition.record()), MAGHNELT_LENT(out), &found));
+        if (found == 0) {
+            return std::nullopt;
+        }
+        return FittedPlane{{out.head<3>(), out[3]}, out.tail<3>()};
+    }
+
+    double count() const { return numbers[0]; }
+    Eigen::Map<const Eigen::Vector3d> sum() const { return Eigen::Map<const Eigen::Vector3d>(numbers.data() + 1); }
+    Eigen::Map<const Eigen::Matrix3d> outer() const { return Eigen::Map<const Eigen::Matrix3d>(numbers.data() + 4); }
+    const Record &record() const { return numbers; }
+
+  private:
+    Record numbers;
+};
+
+// ---- block maps: an offset for each frame, or none ----
+
+class BlockMap {
+  public:
+    static constexpr std::uint32_t unmapped = UINT32_C(0x40000000);
+
+    BlockMap() = default;
+    explicit BlockMap(std::vector<std::uint32_t> words) : list(std::move(words)) {}
+
+    // What an index list makes of this map.
+    BlockMap remapped(const BlockMap &indices) const {
+        BlockMap out(std::vector<std::uint32_t>(indices.list.size()));
+        detail::accept(maghnelt_remap(MAGHNELT_LENT(list), MAGHNELT_LENT(indices.list), MAGHNELT_LENT(out.list)));
+        return out;
+    }
+
+    const std::vector<std::uint32_t> &words() const { return list; }
+
+  private:
+    std::vector<std::uint32_t> list;
+};
+
+// ---- actions: p -> A p + b, and its derivatives by the state's parameters ----
+
+// An action a column.
+using Actions = Eigen::Matrix<double, MAGHNELT_ACTION, Eigen::Dynamic>;
+
+class Action {
+  public:
+    using Record = Eigen::Matrix<double, MAGHNELT_ACTION, 1>;
+    using Columns = Eigen::Matrix<double, 3, 9>;
+
+    // No derivatives yet: write them to origin() and axis(k).
+    Action(const Eigen::Matrix3d &a, const Eigen::Vector3d &b) : numbers(Record::Zero()) {
+        numbers.head<9>() = Eigen::Map<const Eigen::Matrix<double, 9, 1>>(a.data());
+        numbers.segment<3>(9) = b;
+    }
+
+    // A rigid motion with six parameters, a shift and then a turn, both in the frame's own axes.
+    static Action rigid(const Eigen::Matrix3d &rotation, const Eigen::Vector3d &shift) {
+        Action action(rotation, shift);
+        action.origin().leftCols<3>() = rotation;
+        for (Eigen::Index k = 0; k < 3; ++k) {
+            for (Eigen::Index c = 0; c < 3; ++c) {
+                action.axis(k).col(3 + c) = -rotation * Eigen::Vector3d::Unit(k).cross(Eigen::Vector3d::Unit(c));
+            }
+        }
+        return action;
+    }
+
+    Eigen::Map<const Eigen::Matrix3d> matrix() const { return Eigen::Map<const Eigen::Matrix3d>(numbers.data()); }
+    Eigen::Map<const Eigen::Vector3d> shift() const { return Eigen::Map<const Eigen::Vector3d>(numbers.data() + 9); }
+    // The derivatives of b, and of column k of A.
+    Eigen::Map<Columns> origin() { return Eigen::Map<Columns>(numbers.data() + 12); }
+    Eigen::Map<Columns> axis(Eigen::Index k) { return Eigen::Map<Columns>(numbers.data() + 39 + 27 * k); }
+    const Record &record() const { return numbers; }
+
+  private:
+    Record numbers;
+};
+
+// ---- frames of one plane ----
+
+// A centred frame a column: count, mean, and scatter times count.
+using CentredList = Eigen::Matrix<double, MAGHNELT_CENTRED, Eigen::Dynamic>;
+
+// The mean and the scatter that a plane is fitted to. `fixed` has one column, or none where there is no fixed set.
+inline MeanAndScatter frames_fit(std::uint32_t dof, const CentredList &frames, const CentredList &fixed, const Actions &actions) {
+    Eigen::Matrix<double, 3, 4> out;
+    detail::accept(
+        maghnelt_frames_fit(dof, MAGHNELT_LENT(frames), MAGHNELT_LENT(fixed), MAGHNELT_LENT(actions), MAGHNELT_LENT(out)));
+    return {out.col(0), out.rightCols<3>()};
+}
+
+#undef MAGHNELT_LENT
+
+} // namespace maghnelt
+
+#endif
