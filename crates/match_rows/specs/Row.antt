@@ -2,19 +2,14 @@
 use Prim.Native.Nat.{ℕ}
 use mathlib.Core.List.{List}
 use lib.Ieee.{Float}
-use Rattle.sums.specs.Sum.{_⊕_, _⊗_, sumTo}
-use Rattle.lists.specs.Part.{_!_}
-use Rattle.derivative.specs.Action.{actionMatrix, actionShift}
+use Rattle.sums.specs.Sum.{_⊕_, _⊗_, dot}
+use Rattle.action.specs.Carried.{carried}
 use Rattle.derivative.specs.Derivative.{dAlong}
 use Rattle.map_plane.specs.Match.{matchAt, point, normal, offset, information}
 
--- w_r = (Σ_c A(r,c)·s_c) + b_r, the point carried into the site
-abbrev pub world : List Float → List Float → ℕ → Float
-world x s r = sumTo 3 (λ c. actionMatrix x r c ⊗ s ! c) ⊕ actionShift x r
-
--- ((Σ n_r·w_r) + offset)·information
+-- ((Σ n_r·w_r) + offset)·information, where w is the point carried into the site
 abbrev pub residualOf : List Float → List Float → List Float → Float → Float → Float
-residualOf x s n d info = (sumTo 3 (λ r. n ! r ⊗ world x s r) ⊕ d) ⊗ info
+residualOf x s n d info = (dot 3 n (carried x s) ⊕ d) ⊗ info
 
 -- entry c of the derivative of nᵀ(A·s + b), times information, which scales last
 abbrev pub rowOf : List Float → List Float → List Float → Float → ℕ → Float

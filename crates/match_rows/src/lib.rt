@@ -9,21 +9,13 @@ ghost use Rattle.match_rows.specs.Row.{residualOf, residualAt, rowAt};
 ghost use Rattle.match_rows.specs.ByRows.{byRows, rowBy};
 use map_plane::MATCH;
 
-// The most columns of an action.
-pub const MOST_DOF: u32 = 9;
-
 // The distance from the plane of the point that the action carries into the site, times information.
 fn residual(x: &[f64], s: [f64; 3], n: [f64; 3], d: f64, info: f64) -> f64
     requires { ⌜ length (now x) ≡ actionSize ⌝ }
     ensures { λ r. ⌜ r ≡ residualOf (now (x .entry)) s n d info ⌝ }
 {
-    let s0 = s[0];
-    let s1 = s[1];
-    let s2 = s[2];
-    let w0 = x[0] * s0 + x[3] * s1 + x[6] * s2 + x[9];
-    let w1 = x[1] * s0 + x[4] * s1 + x[7] * s2 + x[10];
-    let w2 = x[2] * s0 + x[5] * s1 + x[8] * s2 + x[11];
-    (n[0] * w0 + n[1] * w1 + n[2] * w2 + d) * info
+    let w = action::carried(x, s);
+    (linear::dot3(n, w) + d) * info
 }
 
 // The four matrices of an action's derivative by rows: the numbers that the row's loop reads are then neighbours.
