@@ -10,8 +10,14 @@ use Rattle.point_moments.specs.Moments.{withPoint, transformed, ofPoints, point
 use Rattle.point_moments.specs.Scatter.{meanAndScatter}
 use Rattle.point_moments.specs.Plane.{planeOf}
 use Rattle.plane_fit.specs.Axis.{smallestAxis, atLeastOne, absolute}
-use Rattle.worked_cases.specs.Table.{every, table, caseA, caseB, caseC, caseD, caseE, caseF, caseG, caseK}
+use Rattle.plane_fit.specs.Records.{recordOf}
+use Rattle.plane_fit.specs.Calls.{badRecords, badCount}
+use Rattle.normal_blocks.specs.Somewhere.{somewhere}
+use Rattle.validate.specs.Finite.{allFinite, finiteAbove}
+use Rattle.frame_sets.specs.Sets.{fixedCount, countAt, countSum, dropped, emptyAt, someEmpty, tooFew, notFinite, points}
+use Rattle.plane_moments.specs.Build.{badShapes, buildRefusal}
+use Rattle.worked_cases.specs.Table.{every, table, caseA, caseB, caseC, caseD, caseE, caseF, caseG, caseH, caseI, caseJ, caseK}
 
 pub worked : T (every table)
-unfolding table caseA caseB caseC caseD caseE caseF caseG caseK orderOf before keyOf squareRoot sqrtOf toBits ofBits add mul sub div neg lt le risingOf movedOuter scatterOf withPoint transformed ofPoints pointReasons fromPoints meanAndScatter planeOf smallestAxis atLeastOne absolute
+unfolding table caseA caseB caseC caseD caseE caseF caseG caseH caseI caseJ caseK orderOf before keyOf squareRoot sqrtOf toBits ofBits add mul sub div neg lt le risingOf movedOuter scatterOf withPoint transformed ofPoints pointReasons fromPoints meanAndScatter planeOf smallestAxis atLeastOne absolute somewhere allFinite finiteAbove recordOf badRecords badCount fixedCount countAt countSum dropped emptyAt someEmpty tooFew notFinite points badShapes buildRefusal
 worked = tt

@@ -1,7 +1,7 @@
 -- Document 01's worked cases that are marked to be proved: what the definitions give, beside what the paper says. Definitions only.
 use mathlib.Core.Bool.{Bool, true, false, _&&_}
 use mathlib.Core.List.{List, [], _∷_, _++_, map}
-use Prim.Native.Nat.{ℕ}
+use Prim.Native.Nat.{ℕ, zero, suc}
 use lib.Dec.{eqb}
 use lib.Ieee.{Float, binary64, ofBits, toBits}
 use Rattle.lists.specs.Part.{_!_}
@@ -9,6 +9,8 @@ use Rattle.point_moments.specs.Moments.{momentsList, fromPoints, transformed}
 use Rattle.point_moments.specs.Scatter.{meanAndScatter, meanList}
 use Rattle.point_moments.specs.Plane.{planeOf}
 use Rattle.plane_fit.specs.Axis.{smallestAxis}
+use Rattle.frame_sets.specs.Sets.{points}
+use Rattle.plane_moments.specs.Build.{buildRefusal}
 use Rattle.plane_fit.specs.declared.axis.Fit.{Fit}
 use Rattle.plane_fit.specs.declared.axis.Fit.the-variants.{Plane, NoPlane}
 use Rattle.point_moments.specs.declared.PointMoments.{PointMoments}
@@ -160,6 +162,31 @@ caseF = record {
 unfoldable pub caseG : Case
 caseG = record { found = places (orderOf minusZero plusZero one) ++ fitOf minusZero plusZero one; paper = 0 ∷ 1 ∷ 2 ∷ 0 ∷ [] }
 
+-- a set of moments with a count, by its pattern, and zeros
+abbrev setOf : ℕ → List Float
+setOf count = numbers (count ∷ 0 ∷ 0 ∷ 0 ∷ 0 ∷ 0 ∷ 0 ∷ 0 ∷ 0 ∷ 0 ∷ 0 ∷ 0 ∷ 0 ∷ [])
+
+-- a build's answer: 0 and the point total, or the reason to refuse it
+abbrev answer : ℕ → Float → List ℕ
+answer zero points = 0 ∷ patterns (points ∷ [])
+answer (suc k) points = suc k ∷ []
+
+-- of one frame and a fixed set, by the patterns of their counts; outputs of the right lengths
+abbrev builtFrom : ℕ → ℕ → List ℕ
+builtFrom frame fixed = answer (buildRefusal 6 (setOf frame) (setOf fixed) (ofBits binary64 one) (setOf 0) (setOf 0)) (points (setOf frame) (setOf fixed))
+
+-- h: one frame of 5, fixed -1: accepted, points 5
+unfoldable pub caseH : Case
+caseH = record { found = builtFrom five 0xbff0_0000_0000_0000; paper = 0 ∷ five ∷ [] }
+
+-- i: fixed -3: refusal 5
+unfoldable pub caseI : Case
+caseI = record { found = builtFrom five 0xc008_0000_0000_0000; paper = 5 ∷ [] }
+
+-- j: frame 2, fixed 1: accepted; fixed 0.5: refusal 5
+unfoldable pub caseJ : Case
+caseJ = record { found = builtFrom two one ++ builtFrom two 0x3fe0_0000_0000_0000; paper = 0 ∷ three ∷ 5 ∷ [] }
+
 -- k: the roots of 4, of the least subnormal number and of 2
 unfoldable pub caseK : Case
 caseK = record {
@@ -168,4 +195,4 @@ caseK = record {
 }
 
 unfoldable pub table : List Case
-table = caseA ∷ caseB ∷ caseC ∷ caseD ∷ caseE ∷ caseF ∷ caseG ∷ caseK ∷ []
+table = caseA ∷ caseB ∷ caseC ∷ caseD ∷ caseE ∷ caseF ∷ caseG ∷ caseH ∷ caseI ∷ caseJ ∷ caseK ∷ []
