@@ -111,7 +111,18 @@ uint32_t maghnelt_point_to_plane_sigma(const double *plane, size_t plane_length,
 uint32_t maghnelt_remap(const uint32_t *map, size_t map_length, const uint32_t *list, size_t list_length, uint32_t *out,
                         size_t out_length);
 
-/* ---- frames of one plane: 1 to MAGHNELT_MAX_FRAMES centred frames, and a fixed set of one or none (length 0) ---- */
+/* ---- frames of one plane: 1 to MAGHNELT_MAX_FRAMES frames, and a fixed set, of one frame or none (length 0) ---- */
+
+/*
+ * Builds a factor: frames and fixed are moments, and centred_frames and centred_fixed, of MAGHNELT_CENTRED numbers a set,
+ * get what the other calls take. *points is the number of points. A fixed set of a count at or below 0 is dropped:
+ * *fixed_dropped is 1, centred_fixed is as it was, and the later calls are to be handed an empty fixed slice; otherwise
+ * *fixed_dropped is 0. Refused by 1 to 7; a fixed set that will be dropped counts in 5, and its numbers in 6.
+ */
+uint32_t maghnelt_frames_build(uint32_t dof, const double *frames, size_t frames_length, const double *fixed,
+                               size_t fixed_length, double sigma, double *centred_frames, size_t centred_frames_length,
+                               double *centred_fixed, size_t centred_fixed_length, double *points,
+                               uint32_t *fixed_dropped);
 
 /*
  * The mean (3) and the scatter about it (9, by columns; neither divided nor made symmetric) of what a plane is fitted to,

@@ -112,6 +112,37 @@ static void block_maps(void) {
     expect(out[3] == MAGHNELT_UNMAPPED && out[4] == MAGHNELT_UNMAPPED, "words that go nowhere");
 }
 
+/* A frame of four corners, with a fixed set that is kept and one that is dropped. */
+static void build(void) {
+    const double frames[MAGHNELT_MOMENTS] = {4, 4, 4, 0, 8, 4, 0, 4, 8, 0, 0, 0, 0};
+    double fixed[MAGHNELT_MOMENTS] = {1, 1, 1, 1, 1, 1, 1, 1, 1, 1, 1, 1, 1};
+    double centred_frames[MAGHNELT_CENTRED] = {7};
+    double centred_fixed[MAGHNELT_CENTRED] = {7};
+    double points = 7;
+    uint32_t dropped = 2;
+
+    expect(maghnelt_frames_build(6, SLICE(frames), SLICE(fixed), 0.0, SLICE(centred_frames), SLICE(centred_fixed), &points,
+                                 &dropped) == 7,
+           "no sigma is refused");
+    expect(points == 7 && dropped == 2 && centred_frames[0] == 7 && centred_fixed[0] == 7, "a refused build writes nothing");
+    expect(maghnelt_frames_build(6, SLICE(frames), SLICE(fixed), 0.5, SLICE(centred_frames), SLICE(centred_fixed), &points,
+                                 &dropped) == 0,
+           "a build is accepted");
+    expect(points == 5 && dropped == 0, "points of frames and fixed set");
+    expect(centred_frames[1] == 1 && centred_frames[4] == 4 && centred_frames[8] == 4, "a centred frame");
+    expect(centred_fixed[0] == 1 && centred_fixed[3] == 1 && centred_fixed[4] == 0, "a centred fixed set");
+    fixed[0] = -1;
+    centred_fixed[0] = 7;
+    expect(maghnelt_frames_build(6, SLICE(frames), SLICE(fixed), 0.5, SLICE(centred_frames), SLICE(centred_fixed), &points,
+                                 &dropped) == 0 &&
+               points == 4 && dropped == 1 && centred_fixed[0] == 7,
+           "a fixed set without points is dropped and left");
+    fixed[0] = -3;
+    expect(maghnelt_frames_build(6, SLICE(frames), SLICE(fixed), 0.5, SLICE(centred_frames), SLICE(centred_fixed), &points,
+                                 &dropped) == 5,
+           "a fixed set counts before it is dropped");
+}
+
 /* One frame of four points, lifted by five metres, and a fixed point. */
 static void fit(void) {
     const double frames[MAGHNELT_CENTRED] = {4, 1, 1, 0, 4, 0, 0, 0, 4, 0, 0, 0, 0};
@@ -138,6 +169,7 @@ int main(void) {
     no_answer();
     planes();
     block_maps();
+    build();
     fit();
     return failures != 0;
 }

@@ -2,8 +2,8 @@
 
 use oracle::generator::Generator;
 use oracle::groups::{
-    frames_fit, moments, moments_plane, number, order, plane_new, remap, root_steps, scatter,
-    sigma, sqrt,
+    frames_build, frames_fit, moments, moments_plane, number, order, plane_new, remap, root_steps,
+    scatter, sigma, sqrt,
 };
 use oracle::report::Report;
 use std::process::ExitCode;
@@ -64,6 +64,11 @@ const GROUPS: &[Group] = &[
         name: "remap",
         about: "maps read through index lists against a model",
         run: remap::run,
+    },
+    Group {
+        name: "frames_build",
+        about: "building a frame factor against a model",
+        run: frames_build::run,
     },
     Group {
         name: "frames_fit",

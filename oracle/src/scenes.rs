@@ -211,6 +211,31 @@ fn some_count(generator: &mut Generator) -> f64 {
     }
 }
 
+/// A sigma that is accepted: as it is met, or so small or large that its square is 0 or not finite.
+pub fn some_sigma(generator: &mut Generator) -> f64 {
+    match generator.below(8) {
+        0 => generator.pick(&[1.0, 0.5, 0.1, 3.0]),
+        1 => generator.pick(&[5e-324, 1e-200, 1e-160, 1e160, 1e200, f64::MAX]),
+        _ => within(0.001, 2.0, generator),
+    }
+}
+
+/// A sigma that is refused.
+pub fn bad_sigma(generator: &mut Generator) -> f64 {
+    let minus_nan = f64::from_bits(0xFFF0_0000_0000_0001);
+    let bad = [
+        0.0,
+        -0.0,
+        -1.0,
+        -5e-324,
+        f64::INFINITY,
+        f64::NEG_INFINITY,
+        f64::NAN,
+        minus_nan,
+    ];
+    generator.pick(&bad)
+}
+
 /// The eigenvalues of a symmetric matrix and their vectors, by Jacobi's rotations: decompositions as a host makes them.
 pub fn jacobi(mut m: Matrix<3>) -> (Vector, [Vector; 3]) {
     let mut vectors: [Vector; 3] = matrix(|r, c| f64::from(u8::from(r == c)));

@@ -9,6 +9,7 @@ ghost use Rattle.normal_blocks.specs.Map.{remapped};
 ghost use Rattle.normal_blocks.specs.Calls.{remapRefusal};
 ghost use Rattle.plane_fit.specs.Fit.{fitList};
 ghost use Rattle.plane_fit.specs.Calls.{fitRefusal};
+ghost use Rattle.plane_moments.specs.Build.{Builds};
 
 // IEEE 754's squareRoot.
 #[no_mangle]
@@ -126,6 +127,32 @@ pub extern "C" fn maghnelt_remap(map: &[u32], list: &[u32], out: &mut [u32]) -> 
     ensures { λ r. ⌜ Answered (remapRefusal (now (map .entry)) (now (list .entry)) (now (out .entry))) r (now (out .entry)) (now (out .exit)) (remapped (now (map .entry)) (now (list .entry))) ⌝ }
 {
     normal_blocks::remap(map, list, out)
+}
+
+// The frames of a plane and its fixed set centred, the point total, and whether the fixed set was dropped.
+#[no_mangle]
+pub extern "C" fn maghnelt_frames_build(
+    dof: u32,
+    frames: &[f64],
+    fixed: &[f64],
+    sigma: f64,
+    centred_frames: &mut [f64],
+    centred_fixed: &mut [f64],
+    points: &mut f64,
+    fixed_dropped: &mut u32,
+) -> u32
+    ensures { λ r. ⌜ Builds dof (now (frames .entry)) (now (fixed .entry)) sigma (now («centred_frames» .entry)) (now («centred_fixed» .entry)) (now (points .entry)) (now («fixed_dropped» .entry)) r (now («centred_frames» .exit)) (now («centred_fixed» .exit)) (now (points .exit)) (now («fixed_dropped» .exit)) ⌝ }
+{
+    plane_moments::build::build(
+        dof,
+        frames,
+        fixed,
+        sigma,
+        centred_frames,
+        centred_fixed,
+        points,
+        fixed_dropped,
+    )
 }
 
 // The mean and the scatter of what a plane is fitted to.

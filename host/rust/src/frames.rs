@@ -54,6 +54,12 @@ impl Centred {
         // SAFETY: a `Centred` is laid out as its array, so that as many numbers lie there, and they live as long.
         unsafe { std::slice::from_raw_parts(frames.as_ptr().cast(), frames.len() * CENTRED) }
     }
+
+    /// The same of a set that may be missing.
+    #[inline]
+    pub(crate) fn optional(fixed: Option<&Centred>) -> &[f64] {
+        fixed.map_or(&[], |fixed| fixed.as_array())
+    }
 }
 
 /// A record that was stored, taken as it comes.
@@ -212,12 +218,11 @@ pub fn frames_fit(
     fixed: Option<&Centred>,
     actions: &[Action],
 ) -> Result<FitSums, Refusal> {
-    let fixed = fixed.map_or(&[][..], |fixed| fixed.as_array());
     let mut out = [[0.0; 3]; 4];
     slices::frames_fit(
         dof,
         Centred::flattened(frames),
-        fixed,
+        Centred::optional(fixed),
         Action::flattened(actions),
         out.as_flattened_mut(),
     )?;

@@ -12,6 +12,7 @@
 //! | [`Plane::new`] | a plane with a unit normal |
 //! | [`point_to_plane_sigma`] | the standard deviation of a point's distance from a plane |
 //! | [`BlockMap`], [`BlockMap::remapped`] | where the frames of a factor go in the Hessian |
+//! | [`FrameFactor`] | one plane over several frames, built once and then evaluated at many states |
 //! | [`frames_fit`] | the mean and the scatter that a plane is fitted to over several frames |
 //! | [`sqrt`] | the correctly rounded square root, IEEE 754's squareRoot |
 //! | [`total_order_key`] | an integer that orders bit patterns as IEEE 754's totalOrder |
@@ -42,6 +43,7 @@
 
 mod block_map;
 mod ffi;
+mod frame_factor;
 mod frames;
 mod moments;
 mod plane;
@@ -52,6 +54,7 @@ mod square_root;
 mod total_order;
 
 pub use block_map::{BlockMap, UNMAPPED};
+pub use frame_factor::FrameFactor;
 pub use frames::{frames_fit, Action, Centred, FitSums};
 pub use moments::{Decomposition, FittedPlane, MeanAndScatter, Moments};
 pub use plane::{point_to_plane_sigma, Plane};

@@ -223,6 +223,47 @@ pub fn remap(map: &[u32], list: &[u32], out: &mut [u32]) -> Result<(), Refusal> 
     })
 }
 
+/// Centres the moments `frames` and `fixed`, which is empty where there is none, into `centred_frames` and `centred_fixed`,
+/// and writes the number of points. A fixed set of a count at or below 0 is dropped: `fixed_dropped` becomes 1, otherwise 0,
+/// and `centred_fixed` is left as it was.
+///
+/// # Errors
+///
+/// [`Refusal::DOF`]; [`Refusal::EMPTY_LIST`]: there is no frame; [`Refusal::LENGTH`]: `frames` is not whole records of
+/// [`MOMENTS`](crate::MOMENTS) numbers or more than [`MAX_FRAMES`](crate::MAX_FRAMES), `fixed` is neither empty nor one such
+/// record, or an output has not [`CENTRED`](crate::CENTRED) numbers for each; then [`Refusal::FRAME_COUNT`],
+/// [`Refusal::TOTAL_COUNT`], [`Refusal::NOT_FINITE`] and [`Refusal::SIGMA`].
+#[allow(clippy::too_many_arguments)]
+#[inline]
+pub fn frames_build(
+    dof: u32,
+    frames: &[f64],
+    fixed: &[f64],
+    sigma: f64,
+    centred_frames: &mut [f64],
+    centred_fixed: &mut [f64],
+    points: &mut f64,
+    fixed_dropped: &mut u32,
+) -> Result<(), Refusal> {
+    // SAFETY: as said at the head of this file.
+    Refusal::of_answer(unsafe {
+        ffi::maghnelt_frames_build(
+            dof,
+            frames.as_ptr(),
+            frames.len(),
+            fixed.as_ptr(),
+            fixed.len(),
+            sigma,
+            centred_frames.as_mut_ptr(),
+            centred_frames.len(),
+            centred_fixed.as_mut_ptr(),
+            centred_fixed.len(),
+            points,
+            fixed_dropped,
+        )
+    })
+}
+
 /// Writes mean (3) and scatter (9) of what a plane is fitted to to `out`: the centred `frames`, each carried by its action,
 /// and then the `fixed` set, which is empty where there is none.
 ///

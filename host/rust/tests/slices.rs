@@ -198,6 +198,50 @@ fn remap() {
 }
 
 #[test]
+fn build() {
+    let frames = vec![1.0; MOMENTS * (MAX_FRAMES + 1)];
+    let build = |lengths: [usize; 4]| {
+        let [of_frames, of_fixed, centred_frames, centred_fixed] = lengths;
+        let (mut out, mut fixed) = (patterns(centred_frames), patterns(centred_fixed));
+        let (mut points, mut dropped) = (patterns(1)[0], 77);
+        let answer = slices::frames_build(
+            9,
+            &frames[..of_frames],
+            &frames[..of_fixed],
+            1.0,
+            &mut out,
+            &mut fixed,
+            &mut points,
+            &mut dropped,
+        );
+        if answer.is_err() {
+            assert_eq!(bits(&out), bits(&patterns(centred_frames)));
+            assert_eq!(bits(&fixed), bits(&patterns(centred_fixed)));
+            assert_eq!((points.to_bits(), dropped), (patterns(1)[0].to_bits(), 77));
+        }
+        answer.map(|()| (points, dropped))
+    };
+    assert_eq!(build([3 * MOMENTS, 0, 3 * CENTRED, 0]), Ok((3.0, 0)));
+    let right = [3 * MOMENTS, MOMENTS, 3 * CENTRED, CENTRED];
+    assert_eq!(build(right), Ok((4.0, 0)));
+    for lengths in wrong(right) {
+        let [of_frames, of_fixed, ..] = lengths;
+        let expected = match of_frames {
+            0 => Refusal::EMPTY_LIST,
+            _ => Refusal::LENGTH,
+        };
+        if lengths != [of_frames, 0, of_frames, 0] || of_fixed != 0 || of_frames % MOMENTS != 0 {
+            assert_eq!(build(lengths), Err(expected), "{lengths:?}");
+        }
+    }
+    let most = MAX_FRAMES + 1;
+    assert_eq!(
+        build([most * MOMENTS, 0, most * CENTRED, 0]),
+        Err(Refusal::LENGTH)
+    );
+}
+
+#[test]
 fn fit() {
     let frames = vec![1.0; CENTRED * (MAX_FRAMES + 1)];
     let actions = vec![1.0; ACTION * (MAX_FRAMES + 1)];

@@ -3,6 +3,7 @@
 //! A group's `run` compares the library. Its `compare` takes the functions to compare, so that the group's tests can
 //! show which wrong functions it finds.
 
+pub mod frames_build;
 pub mod frames_fit;
 pub mod moments;
 pub mod moments_plane;

@@ -1,0 +1,142 @@
+//! The factor of one plane over several frames.
+
+use crate::{frames_fit, slices, Action, Centred, FitSums, Moments, Refusal, CENTRED, MOMENTS};
+
+/// One plane over several frames: the moments that each frame saw of it, tested and centred once, and evaluated at many
+/// states of the frames. A fixed set of points that lie in the site already may anchor it.
+///
+/// # Examples
+///
+/// ```
+/// use maghnelt::{Action, FrameFactor, Moments};
+///
+/// # fn main() -> Result<(), maghnelt::Refusal> {
+/// let corners = [[0.0, 0.0, 0.0], [2.0, 0.0, 0.0], [0.0, 2.0, 0.0], [2.0, 2.0, 0.0]];
+/// let seen = Moments::from_points(&corners)?;
+/// let factor = FrameFactor::new(6, &[seen, seen], None, 0.01)?;
+/// assert_eq!(factor.points(), 8.0);
+/// assert_eq!(factor.frames()[0].mean(), [1.0, 1.0, 0.0]);
+///
+/// // The second frame stands two metres further.
+/// let upright = [[1.0, 0.0, 0.0], [0.0, 1.0, 0.0], [0.0, 0.0, 1.0]];
+/// let states = [[0.0; 3], [2.0, 0.0, 0.0]].map(|shift| Action::rigid(&upright, &shift));
+/// assert_eq!(factor.fit(&states)?.mean, [2.0, 1.0, 0.0]);
+/// # Ok(())
+/// # }
+/// ```
+#[derive(Clone, Debug, PartialEq)]
+pub struct FrameFactor {
+    dof: u32,
+    frames: Vec<Centred>,
+    fixed: Option<Centred>,
+    sigma: f64,
+    points: f64,
+    fixed_dropped: bool,
+}
+
+impl FrameFactor {
+    /// A plane that the frames with these moments see, anchored by the `fixed` set; `dof` is the number of the parameters of
+    /// each frame's state, and `sigma` the standard deviation of a point's distance from the plane.
+    ///
+    /// A fixed set of a count at or below 0 counts in the test of the total, and is dropped then.
+    ///
+    /// # Errors
+    ///
+    /// [`Refusal::DOF`] above 9; [`Refusal::EMPTY_LIST`] without a frame; [`Refusal::LENGTH`] with more than
+    /// [`MAX_FRAMES`](crate::MAX_FRAMES); [`Refusal::FRAME_COUNT`] if a frame has no points; [`Refusal::TOTAL_COUNT`] if there
+    /// are fewer than three in all; [`Refusal::NOT_FINITE`] if a moment is not finite; [`Refusal::SIGMA`] if `sigma` is not
+    /// finite and positive.
+    ///
+    /// # Examples
+    ///
+    /// ```
+    /// use maghnelt::{FrameFactor, Moments, Refusal};
+    ///
+    /// # fn main() -> Result<(), Refusal> {
+    /// let points = Moments::from_points(&[[1.0, 2.0, 3.0]; 2])?;
+    /// assert_eq!(FrameFactor::new(6, &[points], None, 0.01).unwrap_err(), Refusal::TOTAL_COUNT);
+    /// assert_eq!(FrameFactor::new(6, &[points], Some(&points), 0.01)?.points(), 4.0);
+    /// # Ok(())
+    /// # }
+    /// ```
+    pub fn new(
+        dof: u32,
+        frames: &[Moments],
+        fixed: Option<&Moments>,
+        sigma: f64,
+    ) -> Result<FrameFactor, Refusal> {
+        let moments: Vec<[f64; MOMENTS]> = frames.iter().map(|frame| *frame.as_array()).collect();
+        let fixed_moments: &[f64] = fixed.map_or(&[], |fixed| fixed.as_array());
+        let mut centred_frames = vec![[0.0; CENTRED]; frames.len()];
+        let mut centred_fixed = [0.0; CENTRED];
+        let of_fixed = if fixed.is_some() { CENTRED } else { 0 };
+        let mut points = 0.0;
+        let mut dropped = 0;
+        slices::frames_build(
+            dof,
+            moments.as_flattened(),
+            fixed_moments,
+            sigma,
+            centred_frames.as_flattened_mut(),
+            &mut centred_fixed[..of_fixed],
+            &mut points,
+            &mut dropped,
+        )?;
+        let fixed_dropped = dropped == 1;
+        let kept = fixed.is_some() && !fixed_dropped;
+        Ok(FrameFactor {
+            dof,
+            frames: centred_frames.into_iter().map(Centred::from).collect(),
+            fixed: kept.then(|| Centred::from(centred_fixed)),
+            sigma,
+            points,
+            fixed_dropped,
+        })
+    }
+
+    /// The mean and the scatter that the plane is fitted to when the frames are carried by these actions, for the
+    /// decomposition that the host makes of the scatter.
+    ///
+    /// # Errors
+    ///
+    /// [`Refusal::ACTIONS`] if they are not as many as the frames.
+    pub fn fit(&self, actions: &[Action]) -> Result<FitSums, Refusal> {
+        frames_fit(self.dof, &self.frames, self.fixed.as_ref(), actions)
+    }
+
+    /// The number of the parameters of each frame's state.
+    #[must_use]
+    pub fn dof(&self) -> u32 {
+        self.dof
+    }
+
+    /// The frames, centred.
+    #[must_use]
+    pub fn frames(&self) -> &[Centred] {
+        &self.frames
+    }
+
+    /// The fixed set, centred; none if there was none or it was dropped.
+    #[must_use]
+    pub fn fixed(&self) -> Option<&Centred> {
+        self.fixed.as_ref()
+    }
+
+    /// Whether a fixed set was handed in and dropped, as its count was at or below 0.
+    #[must_use]
+    pub fn fixed_dropped(&self) -> bool {
+        self.fixed_dropped
+    }
+
+    /// The standard deviation of a point's distance from the plane.
+    #[must_use]
+    pub fn sigma(&self) -> f64 {
+        self.sigma
+    }
+
+    /// The number of points, of the frames and of the fixed set.
+    #[must_use]
+    pub fn points(&self) -> f64 {
+        self.points
+    }
+}
