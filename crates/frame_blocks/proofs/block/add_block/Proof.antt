@@ -1,0 +1,69 @@
+-- `frame_blocks::block::add_block` meets its contract: after c turns the first c columns are added. Assumes nothing.
+use Prim.Native.Nat.{_+_, _-_, _*_, _≤_}
+use mathlib.Core.Path.{_≡_, refl, _∙_}
+use native.Mathlib.Omega.{arith}
+use borrow.Author.Needs.{needs}
+use lib.ListN.{length}
+use Rattle.terms.specs.Terms.{addAll, upto, columnAt}
+use Rattle.terms.specs.Laws.{upto-none, block-more, block-all, column-before}
+use Rattle.frame_blocks.specs.Steps.{rowsEntry}
+use Rattle.frame_blocks.proofs.block.add_block.Statement.{statement}
+use Rattle.frame_blocks.proofs.block.add_block.Tie as tie
+
+abbrev Inv-loop : tie.InvT-loop
+Inv-loop h₀ n at width p0 p1 p2 count weight d0 d1 d2 m c₀ h c =
+    (c ≤ width) × (length h ≡ length h₀) × (h ≡ addAll h₀ (upto c (columnAt n at width (rowsEntry d0 d1 d2 p0 p1 p2 m count weight))))
+
+abbrev μ-loop : tie.MeasureT-loop
+μ-loop h₀ n at width p0 p1 p2 count weight d0 d1 d2 m c₀ h c = width - c
+
+loop-holds : tie.Need-loop-holds Inv-loop μ-loop
+loop-holds c = (search needs, refl, upto-none _ _)
+
+-- the column ends within the Hessian
+inside : (c : tie.In-loop Inv-loop μ-loop) → let s = c .before .before .before .args in (s .at + c .before .loop .c) * s .n + s .n ≤ s .n * s .n
+inside c = column-before _ _ _ (omega arith)
+
+mul-base : tie.Need-mul-base Inv-loop μ-loop
+mul-base c = omega (arith, inside c)
+
+add-base-2 : tie.Need-add-base-2 Inv-loop μ-loop
+add-base-2 c = omega (arith, inside c)
+
+add-column-requires : tie.Need-add-column-requires Inv-loop μ-loop
+add-column-requires c κs = (omega arith, omega (arith, inside (c .before)))
+
+loop-again : tie.Need-loop-again Inv-loop μ-loop
+unfolding rowsEntry
+loop-again c =
+    let added = c .before .before in
+    let at = added .before .before .before .loop in
+    (search needs, added .add-column .kept .0 ∙ at .inv .1, block-more _ (at .h) _ _ _ _ _ (at .c) (at .inv .2) (added .add-column .ensures))
+
+returns : tie.Need-returns Inv-loop μ-loop
+returns c = block-all _ _ _ _ _ (c .before .loop .c) _ (omega arith) (c .before .loop .inv .2)
+
+pub add-block-spec : {M : Type 1} → statement M
+add-block-spec =
+    tie.close
+    (tie.spec
+    Inv-loop
+    μ-loop
+    loop-holds
+    (λ c. search needs)
+    mul-base
+    add-base-2
+    (λ c. search needs)
+    (λ c. search needs)
+    (λ c. search needs)
+    (λ c. search needs)
+    (λ c. search needs)
+    (λ c. search needs)
+    (λ c. search needs)
+    (λ c. search needs)
+    add-column-requires
+    (λ c. search needs)
+    (λ c. search needs)
+    loop-again
+    (λ c. search needs)
+    returns)

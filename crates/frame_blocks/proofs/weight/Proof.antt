@@ -1,0 +1,12 @@
+-- `frame_blocks::weight` meets its contract. Assumes nothing.
+use mathlib.Core.Path.{refl}
+use Rattle.frame_blocks.specs.Frame.{weightOf}
+use Rattle.frame_blocks.proofs.weight.Statement.{statement}
+use Rattle.frame_blocks.proofs.weight.Tie as tie
+
+returns : tie.Need-returns
+unfolding weightOf
+returns c = refl
+
+pub weight-spec : {M : Type 1} → statement M
+weight-spec = tie.close (tie.spec returns)

@@ -1,0 +1,142 @@
+-- All frames of a call under a plane: what they cost with the fixed set, and what each of them adds where. Assumes nothing.
+use native.Mathlib.Omega.{arith}
+use Prim.Native.Nat.{ℕ, suc, _+_, _*_, _≤_, _<_}
+use native.Mathlib.Numerals.{add-one}
+use mathlib.Core.Path.{_≡_, refl, ap, ap₂, _∙_}
+use mathlib.Core.Bool.{false}
+use mathlib.Core.List.{List, [], _∷_}
+use lib.ListN.{length}
+use lib.Ieee.{Float}
+use Rattle.sums.specs.Sum.{_⊕_, zeroF, sumFromZero}
+use Rattle.terms.specs.Terms.{addAll, upto}
+use Rattle.terms.specs.Laws.{upto-none}
+use Rattle.normal_blocks.specs.declared.Place.{Place}
+use Rattle.normal_blocks.specs.Map.{lookup, exceeds, someExceeds}
+use Rattle.normal_blocks.specs.Laws.{fits}
+use Rattle.normal_blocks.specs.TargetLaws.{hessian-mapped, gradient-mapped, hessian-unmapped, gradient-unmapped}
+use Rattle.normal_blocks.specs.declared.Place.the-variants.{At, Unmapped}
+use Rattle.normal_blocks.specs.Target.{hessianAt, gradientAt}
+use Rattle.call_lists.specs.Frames.{Frames, frameHessian, frameGradient}
+use Rattle.call_lists.specs.FrameLaws.{hessian-more, gradient-more}
+use Rattle.derivative.specs.Action.{actionSize}
+use Rattle.point_moments.specs.declared.scatter.Centred.{Centred}
+use Rattle.point_moments.specs.Scatter.{centredOf}
+use Rattle.frame_normal.specs.Normal.{normalIn}
+use Rattle.plane_fit.specs.Fit.{frameCount, frameAt, actionAt, andFixed}
+use Rattle.frame_blocks.specs.Frame.{frameAlong, frameCost, fixedCost, blockEntry, pulledEntry, vectorEntry}
+use Rattle.frame_blocks.specs.Steps.{pullOf, Added}
+use Rattle.frame_blocks.specs.declared.Pull.{Pull}
+
+-- what frame k costs
+unfoldable pub costAt : List Float → List Float → List Float → Float → Float → ℕ → Float
+costAt frames actions n offset weight k = frameCost (actionAt actions k) (frameAt frames k) n offset weight
+
+-- Σ₀ over the frames, then the fixed set's
+unfoldable pub framesCost : List Float → List Float → List Float → List Float → Float → Float → Float
+framesCost frames fixed actions n offset weight =
+    andFixed fixed (λ f. fixedCost f n offset weight) (sumFromZero (frameCount frames) (costAt frames actions n offset weight))
+
+-- each frame goes where the map says, `dof` rows wide, with its block and its vector under the plane
+abbrev pub framesUnder : ℕ → List Float → List Float → List ℕ → List Float → Float → Float → Frames
+framesUnder dof frames actions map n offset weight = record {
+  count = frameCount frames;
+  place = lookup map;
+  width = λ k. dof;
+  block = λ k. blockEntry (actionAt actions k) (frameAt frames k) n weight;
+  vector = λ k. vectorEntry (actionAt actions k) (frameAt frames k) n offset weight;
+}
+
+-- what the tests of a call leave to the work
+pub record Ready (cells order dof : ℕ) (frames actions : List Float) (map : List ℕ) : Type 0 where
+  pub narrow : dof ≤ 9
+  pub square : cells ≡ order * order
+  pub acted : actionSize * frameCount frames ≤ length actions
+  pub fits : someExceeds order (λ k. dof) (lookup map) (frameCount frames) ≡ false
+
+-- one frame, at the place p: its cost, and what it adds there
+pub record FrameAdded (x : List Float) (f : Centred) (n : List Float) (offset weight : Float) (order dof : ℕ) (p : Place) (r : Float) (h h′ g g′ : List Float) : Type 0 where
+  pub cost : r ≡ frameCost x f n offset weight
+  pub hessian : h′ ≡ addAll h (hessianAt order dof p (blockEntry x f n weight))
+  pub gradient : g′ ≡ addAll g (gradientAt dof p (vectorEntry x f n offset weight))
+
+-- the loop over the frames, after k of them
+pub record Summed (order dof : ℕ) (frames actions : List Float) (map : List ℕ) (n : List Float) (offset weight : Float) (k : ℕ) (s : Float) (h h′ g g′ : List Float) : Type 0 where
+  pub cost : s ≡ sumFromZero k (costAt frames actions n offset weight)
+  pub hessian : h′ ≡ addAll h (upto k (frameHessian order (framesUnder dof frames actions map n offset weight)))
+  pub gradient : g′ ≡ addAll g (upto k (frameGradient (framesUnder dof frames actions map n offset weight)))
+
+-- all frames with the fixed set
+pub record AllAdded (order dof : ℕ) (frames fixed actions : List Float) (map : List ℕ) (n : List Float) (offset weight r : Float) (h h′ g g′ : List Float) : Type 0 where
+  pub cost : r ≡ framesCost frames fixed actions n offset weight
+  pub hessian : h′ ≡ addAll h (upto (frameCount frames) (frameHessian order (framesUnder dof frames actions map n offset weight)))
+  pub gradient : g′ ≡ addAll g (upto (frameCount frames) (frameGradient (framesUnder dof frames actions map n offset weight)))
+
+-- ---- laws
+
+-- one frame at an offset, and one that goes nowhere
+module _ (x : List Float) (f : Centred) (n : List Float) (offset weight : Float) (order dof : ℕ) (p : Place) (s : Pull)
+    (pulled : s ≡ pullOf f (normalIn x n) (frameAlong x f n offset) weight) where
+  pub frame-mapped : (at : ℕ) (h h′ g g′ : List Float) → p ≡ At at → Added order at dof (blockEntry x f n weight) (pulledEntry x f n (s .turn) (s .shift) weight) h h′ g g′
+      → FrameAdded x f n offset weight order dof p (s .cost) h h′ g g′
+  unfolding frameCost vectorEntry
+  frame-mapped at h h′ g g′ mapped a = record {
+    cost = ap (λ (q : Pull). q .cost) pulled;
+    hessian = hessian-mapped dof p at mapped order (blockEntry x f n weight) h h′ (a .hessian);
+    gradient = gradient-mapped dof p at mapped (vectorEntry x f n offset weight) g g′ (rw pulled at (a .gradient));
+  }
+
+  pub frame-unmapped : (h g : List Float) → p ≡ Unmapped → FrameAdded x f n offset weight order dof p (s .cost) h h g g
+  unfolding frameCost
+  frame-unmapped h g nowhere = record {
+    cost = ap (λ (q : Pull). q .cost) pulled;
+    hessian = hessian-unmapped dof p nowhere order (blockEntry x f n weight) h;
+    gradient = gradient-unmapped dof p nowhere (vectorEntry x f n offset weight) g;
+  }
+
+module _ (order dof : ℕ) (frames actions : List Float) (map : List ℕ) where
+  -- what a call that is ready has at each frame, the two slices being as long as they were
+  module _ (cells : ℕ) (ready : Ready cells order dof frames actions map) where
+    pub ready-fits : (rows k : ℕ) (p : Place) → rows ≡ order → p ≡ lookup map k → k < frameCount frames → exceeds rows dof p ≡ false
+    ready-fits rows k p e at l = rw (e, at) (fits order (λ k. dof) (lookup map) (frameCount frames) (ready .fits) k l)
+
+    pub ready-square : (h g : ℕ) → h ≡ cells → g ≡ order → h ≡ g * g
+    ready-square h g e q = rw (e, q) (ready .square)
+
+  module _ (n : List Float) (offset weight : Float) where
+    pub summed-none : (h g : List Float) → Summed order dof frames actions map n offset weight 0 zeroF h h g g
+    summed-none h g = record { cost = refl; hessian = upto-none h _; gradient = upto-none g _ }
+
+    -- one frame more
+    pub summed-more : (k rows : ℕ) (x : List Float) (f : Centred) (p : Place) (s r : Float) (h₀ h h′ g₀ g g′ : List Float) → rows ≡ order
+        → x ≡ actionAt actions k → f ≡ frameAt frames k → p ≡ lookup map k → FrameAdded x f n offset weight rows dof p r h h′ g g′
+        → Summed order dof frames actions map n offset weight k s h₀ h g₀ g → Summed order dof frames actions map n offset weight (k + 1) (s ⊕ r) h₀ h′ g₀ g′
+    unfolding costAt
+    summed-more k rows x f p s r h₀ h h′ g₀ g g′ el ex ef ep a before =
+        let all = framesUnder dof frames actions map n offset weight in
+        record {
+          cost = rw (add-one k) (ap₂ _⊕_ (before .cost) (rw (ex, ef) at (a .cost)));
+          hessian = hessian-more all k p ep order h₀ h h′ (blockEntry x f n weight) (λ i j li lj. rw (ex, ef)) (before .hessian) (rw el at (a .hessian));
+          gradient = gradient-more all k p ep g₀ g g′ (vectorEntry x f n offset weight) (λ i li. rw (ex, ef)) (before .gradient) (a .gradient);
+        }
+
+    -- all of them, and the fixed set
+    pub all-added : (fixed : List Float) (count : ℕ) (s r : Float) (h h′ g g′ : List Float) → count ≡ frameCount frames → r ≡ andFixed fixed (λ f. fixedCost f n offset weight) s
+        → Summed order dof frames actions map n offset weight count s h h′ g g′ → AllAdded order dof frames fixed actions map n offset weight r h h′ g g′
+    unfolding framesCost
+    all-added fixed count s r h h′ g g′ e q a = record {
+      cost = q ∙ ap (andFixed fixed (λ f. fixedCost f n offset weight)) (rw e at (a .cost));
+      hessian = rw e at (a .hessian);
+      gradient = rw e at (a .gradient);
+    }
+
+-- a sum with the fixed set's term, or without one
+never : {k : ℕ} → suc k ≡ 0 → ⊥
+never h = omega arith
+
+pub fixed-none : (fixed : List Float) (term : Centred → Float) (sum : Float) → length fixed ≡ 0 → sum ≡ andFixed fixed term sum
+fixed-none [] term sum h = refl
+fixed-none (x ∷ l) term sum h = absurd (never h)
+
+pub fixed-some : (fixed : List Float) (term : Centred → Float) (sum : Float) → (length fixed ≡ 0 → ⊥) → sum ⊕ term (centredOf fixed) ≡ andFixed fixed term sum
+fixed-some [] term sum h = absurd (h refl)
+fixed-some (x ∷ l) term sum h = refl
