@@ -1,8 +1,8 @@
 -- The call that accumulates a match list, as the theorem over lists of calls has it: one frame, whose block and vector are the groups' sums. Assumes nothing.
-use Prim.Native.Nat.{ℕ}
+use Prim.Native.Nat.{ℕ, _*_}
 use mathlib.Core.Path.{_≡_, sym, ap, _∙_}
 use native.Mathlib.Nat.{zero-add}
-use mathlib.Core.Bool.{Bool, not}
+use mathlib.Core.Bool.{Bool, false, not}
 use mathlib.Core.List.{List, [], _∷_, _++_}
 use lib.Dec.{eqb}
 use lib.ListN.{length}
@@ -11,7 +11,7 @@ use Rattle.refusals.specs.Refusal.{Reason, _when_, firstOf}
 use Rattle.derivative.specs.Action.{actionSize}
 use Rattle.terms.specs.Terms.{addAll, upto}
 use Rattle.normal_blocks.specs.Map.{badWords, lookup, someExceeds}
-use Rattle.normal_blocks.specs.Calls.{badTarget}
+use Rattle.normal_blocks.specs.Calls.{badTarget, square}
 use Rattle.normal_blocks.specs.Target.{hessianAt, gradientAt, entryOf, numberFrom}
 use Rattle.normal_blocks.specs.TargetLaws.{hessian-same, gradient-same}
 use Rattle.normal_blocks.specs.declared.Place.{Place}
@@ -24,7 +24,7 @@ use Rattle.call_lists.specs.Frames.{Frames, frameHessian, frameGradient, framed
 use Rattle.call_lists.specs.FrameLaws.{framed-tame, judged-tame}
 use Rattle.call_lists.specs.Accumulated.{Accumulated, accumulated-refused, accumulated-framed}
 use Rattle.map_planes.specs.Reasons.{Numbered, orElse, orElse-some, first-append, not-first, neither, suc-no, parts-numbered}
-use Rattle.map_planes.specs.Calls.{matchesReasons, matchesRefusal, listReasons, reasonsAt, reasons-numbered}
+use Rattle.map_planes.specs.Calls.{fit, matchesReasons, matchesRefusal, listReasons, reasonsAt, reasons-numbered}
 
 -- the call's own inputs
 pub record Work : Type 0 where
@@ -67,16 +67,24 @@ map-last m n w =
     let misfit = badTarget (length (w .map)) m n in
     first-append (matchesReasons (w .dof) (w .matches) misfit (w .action)) (mapReasons n w) (matches-numbered (w .dof) (w .matches) misfit (w .action))
 
+-- what is known of a call that is accepted
+pub record Accepted (m n : ℕ) (w : Work) : Type 0 where
+  pub square : m ≡ n * n
+  pub fits : someExceeds n (λ k. w .dof) (lookup (w .map)) 1 ≡ false
+
+pub accepted-list : (m n : ℕ) (w : Work) → accumulateRefusal m n w ≡ 0 → Accepted m n w
+accepted-list m n w e =
+    let both = neither (matchesRefusal (w .dof) (w .matches) (badTarget (length (w .map)) m n) (w .action)) (firstOf (mapReasons n w)) (sym (map-last m n w) ∙ e) in
+    let nine = not-first 8 (badWords (w .map)) (10 when someExceeds n (λ k. w .dof) (lookup (w .map)) 1 ∷ []) (both .1) in
+    record {
+      square = square (length (w .map)) m n (fit (w .dof) (w .matches) _ (w .action) (both .0) .fits) .1;
+      fits = not-first 9 (someExceeds n (λ k. w .dof) (lookup (w .map)) 1) [] (nine .1) .0;
+    }
+
 -- WHAT THE THEOREM OVER LISTS OF CALLS ASKS: the call adds to cells of its own segment alone
 pub matches-tame : (m n : ℕ) (w : Work) → Tame n (matchesCall m n w)
 unfolding matchesCall
-matches-tame m n w =
-    judged-tame n (accumulateRefusal m n w) (framed n (listCost (w .action) (w .matches)) (framesOf w))
-    (λ e.
-    let ten = 10 when someExceeds n (λ k. w .dof) (lookup (w .map)) 1 ∷ [] in
-    let list = matchesRefusal (w .dof) (w .matches) (badTarget (length (w .map)) m n) (w .action) in
-    let nine = not-first 8 (badWords (w .map)) ten (neither list (firstOf (mapReasons n w)) (sym (map-last m n w) ∙ e) .1) in
-    framed-tame n (listCost (w .action) (w .matches)) (framesOf w) (not-first 9 (someExceeds n (λ k. w .dof) (lookup (w .map)) 1) [] (nine .1) .0))
+matches-tame m n w = judged-tame n (accumulateRefusal m n w) _ (λ e. framed-tame n _ (framesOf w) (accepted-list m n w e .fits))
 
 -- ---- the call's tests as code makes them: the list's with what the target's shape said, then the map's
 module _ (m n : ℕ) (w : Work) (misfit : Bool) (why : ℕ) (shape : misfit ≡ badTarget (length (w .map)) m n)
