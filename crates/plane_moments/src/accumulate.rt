@@ -1,0 +1,134 @@
+// Accumulating frames: the cost under the fitted plane, and each mapped frame's block and vector added to a Hessian and a gradient.
+ghost use mathlib.Core.Path.{_≡_};
+ghost use mathlib.Core.List.{List};
+ghost use lib.ListN.{length};
+ghost use Rattle.call_lists.specs.Accumulated.{Accumulated};
+ghost use Rattle.plane_moments.specs.Accumulate.{FramesWork, badLengths, mapRefusal, framesRefusal, framesCall, work};
+use plane_fit::MOST_DOF;
+use plane_fit::axis::Fit;
+use point_moments::scatter::CENTRED;
+
+// How many numbers a decomposition is.
+const DECOMPOSITION: usize = 12;
+
+// 3: the frames, the fixed set, the decomposition, and the target of so many cells and n rows with its map of so many words.
+fn bad_lengths(
+    frames: &[f64],
+    fixed: &[f64],
+    decomposition: &[u64],
+    words: usize,
+    cells: usize,
+    n: usize,
+) -> bool
+    ensures { λ r. ⌜ r ≡ badLengths (now (frames .entry)) (now (fixed .entry)) (now (decomposition .entry)) words cells n ⌝ }
+{
+    if plane_fit::bad_frames(frames) {
+        return true;
+    }
+    if plane_fit::bad_fixed(fixed) {
+        return true;
+    }
+    if decomposition.len() != DECOMPOSITION {
+        return true;
+    }
+    normal_blocks::bad_target(words, cells, n)
+}
+
+// 9 and 10: the map's words, and where they put the frames that exist.
+fn map_refusal(map: &[u32], count: usize, dof: u32, n: usize) -> u32
+    ensures { λ r. ⌜ r ≡ mapRefusal (now (map .entry)) count dof n ⌝ }
+{
+    if normal_blocks::bad_words(map) {
+        return 9;
+    }
+    if normal_blocks::some_exceeds(map, count, dof as usize, n) {
+        return 10;
+    }
+    0
+}
+
+// The number of the reason to refuse, or 0.
+fn refusal(
+    dof: u32,
+    frames: &[f64],
+    fixed: &[f64],
+    sigma: f64,
+    actions: &[f64],
+    decomposition: &[u64],
+    map: &[u32],
+    cells: usize,
+    n: usize,
+) -> u32
+    ensures { λ r. ⌜ r ≡ framesRefusal cells n (work dof (now (frames .entry)) (now (fixed .entry)) sigma (now (actions .entry)) (now (decomposition .entry)) (now (map .entry))) ⌝ }
+{
+    if dof > MOST_DOF {
+        return 1;
+    }
+    if frames.len() == 0 {
+        return 2;
+    }
+    if bad_lengths(frames, fixed, decomposition, map.len(), cells, n) {
+        return 3;
+    }
+    if !validate::is_positive(sigma) {
+        return 7;
+    }
+    if plane_fit::bad_actions(frames, actions) {
+        return 8;
+    }
+    map_refusal(map, frames.len() / CENTRED, dof, n)
+}
+
+// The host's call. The number of the reason to refuse, or 0.
+pub fn accumulate(
+    dof: u32,
+    frames: &[f64],
+    fixed: &[f64],
+    sigma: f64,
+    actions: &[f64],
+    decomposition: &[u64],
+    map: &[u32],
+    hessian: &mut [f64],
+    gradient: &mut [f64],
+    cost: &mut f64,
+) -> u32
+    ensures { λ r. ⌜ Accumulated (framesCall (length (now (hessian .entry))) (length (now (gradient .entry))) (work dof (now (frames .entry)) (now (fixed .entry)) sigma (now (actions .entry)) (now (decomposition .entry)) (now (map .entry)))) (now (hessian .entry)) (now (gradient .entry)) (now (cost .entry)) r (now (hessian .exit)) (now (gradient .exit)) (now (cost .exit)) ⌝ }
+{
+    let n = gradient.len();
+    let refusal = refusal(
+        dof,
+        frames,
+        fixed,
+        sigma,
+        actions,
+        decomposition,
+        map,
+        hessian.len(),
+        n,
+    );
+    if refusal != 0 {
+        return refusal;
+    }
+    let mean = plane_fit::fit_mean(frames, fixed, actions);
+    match plane_fit::axis::smallest_axis(decomposition, mean) {
+        Fit::Plane(a, b, c, offset) => {
+            let weight = frame_blocks::weight(sigma);
+            *cost = frame_blocks::add_all(
+                hessian,
+                gradient,
+                dof as usize,
+                frames,
+                fixed,
+                actions,
+                map,
+                [a, b, c],
+                offset,
+                weight,
+            );
+        }
+        Fit::NoPlane => {
+            *cost = 0.0;
+        }
+    }
+    0
+}
