@@ -94,7 +94,7 @@ macro_rules! calls {
 macro_rules! made {
     ($condition:meta, $($rest:tt)*) => {{
         #[cfg($condition)]
-        let make = made!($($rest)*);
+        let make: Option<fn(&mut [Value]) -> u32> = made!($($rest)*);
         #[cfg(not($condition))]
         let make = None;
         make

@@ -6,3 +6,4 @@ pub use original::{core, error, factors};
 pub mod calls;
 pub mod case;
 pub mod jobs;
+pub mod sample;

@@ -4,6 +4,7 @@ use oracle::generator::Generator;
 use original::calls::CALLS;
 use original::case::Case;
 use original::jobs::{Job, JOBS};
+use original::sample::sample;
 use std::collections::BTreeMap;
 use std::process::ExitCode;
 
@@ -23,11 +24,31 @@ struct Arguments {
 
 fn main() -> ExitCode {
     let words: Vec<String> = std::env::args().skip(1).collect();
+    if let [first, path] = words.as_slice() {
+        if first == "sample" {
+            return write_sample(path);
+        }
+    }
     match parse(&words) {
         Ok(arguments) => compare(&arguments),
         Err(message) => {
             eprintln!("original: {message}\n\n{}", usage());
             ExitCode::from(2)
+        }
+    }
+}
+
+/// Writes the sample of the crate `replay`.
+fn write_sample(path: &str) -> ExitCode {
+    let (bytes, cases) = sample(DEFAULT_SEED);
+    match std::fs::write(path, &bytes) {
+        Ok(()) => {
+            println!("{path}: {cases} cases, {} bytes", bytes.len());
+            ExitCode::SUCCESS
+        }
+        Err(error) => {
+            eprintln!("{path}: {error}");
+            ExitCode::FAILURE
         }
     }
 }
@@ -128,11 +149,12 @@ fn number_after(option: &str, word: Option<&String>) -> Result<u64, String> {
 fn usage() -> String {
     let names: Vec<&str> = JOBS.iter().map(|job| job.name).collect();
     format!(
-        "usage: original [KIND ...] [--count N] [--seed N] [--job SEED]\n\n\
+        "usage: original [KIND ...] [--count N] [--seed N] [--job SEED]\n       original sample FILE\n\n\
          Compares the proved library with the original Rust, on jobs of the kinds that are named, or of all.\n\n\
          --count N   about so many calls (default {DEFAULT_COUNT})\n\
          --seed N    the seed of the jobs' seeds (default {DEFAULT_SEED})\n\
-         --job SEED  one job of each kind, of the seed printed with a difference\n\n\
+         --job SEED  one job of each kind, of the seed printed with a difference\n\
+         sample FILE writes the sample that the crate replay is run on\n\n\
          Exit status: 0 no difference, 1 a difference, 2 bad usage.\n\nkinds: {}",
         names.join(" ")
     )

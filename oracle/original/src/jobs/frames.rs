@@ -2,7 +2,7 @@
 
 use super::draw::{self, Temper};
 use super::moments::{numbers, of_numbers, vector};
-use super::tried::{for_a_group, Tried};
+use super::tried::{drawn_state, for_a_group, Tried};
 use super::{maps, refused};
 use crate::calls::{self, Value};
 use crate::case::{After, Case, Cell};
@@ -107,7 +107,9 @@ fn build<G: Tried>(
         _ => 1 + generator.below(3),
     } as usize;
     let piece = draw::piece(generator);
-    let states: Vec<Vec<f64>> = (0..count).map(|_| G::params(temper, generator)).collect();
+    let states: Vec<Vec<f64>> = (0..count)
+        .map(|_| drawn_state::<G>(temper, generator))
+        .collect();
     let mut frames: Vec<Vec<f64>> = states
         .iter()
         .map(|state| match temper {

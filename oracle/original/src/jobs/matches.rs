@@ -4,7 +4,7 @@ use super::draw::{self, Temper};
 use super::frames::Target;
 use super::moments::vector;
 use super::refused;
-use super::tried::{for_a_group, Tried};
+use super::tried::{drawn_state, for_a_group, Tried};
 use crate::calls::{self, Value};
 use crate::case::{After, Case};
 use crate::factors::lidar::action;
@@ -89,7 +89,7 @@ fn count(generator: &mut Generator) -> usize {
 
 fn of_group<G: Tried>(generator: &mut Generator, cases: &mut Vec<Case>) {
     let temper = Temper::random(generator);
-    let state = G::params(temper, generator);
+    let state = drawn_state::<G>(temper, generator);
     let action = action::beside::of_state::<G>(&state);
     let mut list: Vec<Vec<f64>> = (0..count(generator))
         .map(|_| drawn(temper, &action, generator))

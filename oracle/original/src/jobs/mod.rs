@@ -11,6 +11,8 @@ mod planes;
 mod refused;
 mod tried;
 
+pub use tried::few_states;
+
 use crate::case::Case;
 use oracle::generator::Generator;
 

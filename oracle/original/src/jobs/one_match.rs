@@ -3,7 +3,7 @@
 use super::draw::{self, Temper};
 use super::matches::{drawn, number, of_numbers};
 use super::refused;
-use super::tried::{for_a_group, Tried};
+use super::tried::{drawn_state, for_a_group, Tried};
 use crate::calls::{self, Value};
 use crate::case::{After, Case};
 use crate::factors::lidar::action;
@@ -20,8 +20,8 @@ pub fn run(generator: &mut Generator, cases: &mut Vec<Case>) {
 
 fn of_group<G: Tried>(generator: &mut Generator, cases: &mut Vec<Case>) {
     let temper = Temper::random(generator);
-    let state = G::params(temper, generator);
-    let extrinsic = SE3::params(temper, generator);
+    let state = drawn_state::<G>(temper, generator);
+    let extrinsic = drawn_state::<SE3>(temper, generator);
     let mut numbers = drawn(temper, &action::beside::of_state::<G>(&state), generator);
     if generator.below(8) == 0 {
         match generator.below(3) {

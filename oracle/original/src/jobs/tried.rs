@@ -6,11 +6,27 @@ use apex_manifolds::se3::SE3;
 use apex_manifolds::{Affine, Sim3, SE23, SO3};
 use oracle::draws::within;
 use oracle::generator::Generator;
+use std::cell::Cell;
 
 /// A group with states to draw.
 pub trait Tried: ActsOnPoints3 + Send + Sync + 'static {
     /// The parameters of a state.
     fn params(temper: Temper, generator: &mut Generator) -> Vec<f64>;
+}
+
+thread_local! {
+    static STATES: Cell<u64> = const { Cell::new(u64::MAX) };
+}
+
+/// From now on a group has only so many states of a temper, so that a sample has each action once.
+pub fn few_states(number: u64) {
+    STATES.set(number);
+}
+
+/// The parameters of a state that is drawn.
+pub fn drawn_state<G: Tried>(temper: Temper, generator: &mut Generator) -> Vec<f64> {
+    let seed = generator.below(STATES.get());
+    G::params(temper, &mut Generator::new(seed))
 }
 
 /// A shift within a kilometre; none for every eighth state.

@@ -1,0 +1,253 @@
+//! The sample that the crate `replay` is run on: some calls of every kind, with the original's answers.
+//!
+//! It is stored in units of 32 bits, the least byte first: the number of cases, the cases, and the lists that they name. A list
+//! is named by the place of its first unit (19 bits) and its length in entries (13 bits). Of up to 32 numbers one unit says which
+//! are not +0, the first by the least bit, and these follow, two units each; a word takes one unit.
+//! A case is a head (the call's place in [`CALLS`], 8 bits; the number answered, 8; how many lists of numbers, of patterns and of
+//! words, 4 each), the lists that the call is handed, numbers before patterns before words, and the lists of numbers and of words as
+//! they are afterwards.
+
+use crate::calls::{Value, CALLS, FROM_POINTS, MATCHES_ACCUMULATE};
+use crate::case::{After, Case, Cell};
+use crate::jobs::{few_states, JOBS};
+use oracle::generator::Generator;
+use std::collections::HashMap;
+
+/// The most numbers of a list, and of the lists of matches: one with more than a group is taken.
+const LONG: usize = 240;
+const LONGEST: usize = 4200;
+/// The most patterns of a list.
+const PATTERNS: usize = 60;
+
+/// Jobs drawn of each kind, and the states of a group and temper that they draw.
+const JOBS_DRAWN: u64 = 30_000;
+const STATES: u64 = 2;
+
+/// How many calls of a kind are taken: fewer where they are long.
+fn taken_of(case: &Case) -> usize {
+    match case.call.name {
+        _ if case.kind.starts_with("refused by") => 1,
+        name if name.starts_with("moments") || name.starts_with("plane") => 30,
+        "point_to_plane_sigma" => 20,
+        "frames_accumulate" | "frames_linearize" | "remap" => 2,
+        "frames_build" | "match_linearize" => 12,
+        _ => 4,
+    }
+}
+
+/// A case's kind in the sample: of whatever group.
+fn key(case: &Case) -> String {
+    let kind = match case.kind.split_once(' ') {
+        Some((group, rest)) if GROUPS.contains(&group) => rest,
+        _ => &case.kind,
+    };
+    format!("{} {kind} {}", case.call.name, case.answer)
+}
+
+const GROUPS: [&str; 5] = ["SE3", "SE23", "Sim3", "SO3", "Affine"];
+
+/// The lists of a sample, each stored once.
+#[derive(Default)]
+struct Lists {
+    units: Vec<u32>,
+    places: HashMap<Vec<u32>, usize>,
+}
+
+impl Lists {
+    /// The place of a list.
+    fn place(&mut self, units: Vec<u32>) -> usize {
+        if let Some(place) = self.places.get(&units) {
+            return *place;
+        }
+        let place = self.units.len();
+        self.units.extend(&units);
+        self.places.insert(units, place);
+        place
+    }
+}
+
+/// A list by the place of its first unit and its length.
+#[derive(Clone, Copy)]
+struct List {
+    place: usize,
+    length: usize,
+}
+
+struct Stored {
+    head: u32,
+    lists: Vec<List>,
+}
+
+fn units_of(numbers: &[f64]) -> Vec<u32> {
+    let mut units = Vec::new();
+    for group in numbers.chunks(32) {
+        let others: Vec<u64> = group.iter().map(|number| number.to_bits()).collect();
+        let mask = (0..group.len())
+            .filter(|&k| others[k] != 0)
+            .fold(0, |mask, k| mask | 1 << k);
+        units.push(mask);
+        for bits in others.into_iter().filter(|&bits| bits != 0) {
+            units.extend([bits as u32, (bits >> 32) as u32]);
+        }
+    }
+    units
+}
+
+/// What an output holds before the call in the sample, whose bits matter only in that they stay.
+fn old(length: usize) -> Vec<f64> {
+    (1..=length).map(|k| k as f64).collect()
+}
+
+/// Whether a parameter is written without being read.
+fn is_output(case: &Case, place: usize) -> bool {
+    let name = case.call.parameters[place];
+    let is_read = matches!(name, "hessian" | "gradient")
+        || name == "moments" && !std::ptr::eq(case.call, &FROM_POINTS);
+    case.call.manners[place].starts_with("out_number") && !is_read
+}
+
+fn is_pattern(case: &Case, place: usize) -> bool {
+    case.call.parameters[place].starts_with("decomposition")
+}
+
+/// The numbers of a parameter, before and after.
+fn numbers(case: &Case, place: usize) -> Option<[Vec<f64>; 2]> {
+    let Value::Numbers(given) = &case.before[place] else {
+        return None;
+    };
+    let before = if is_output(case, place) {
+        old(given.len())
+    } else {
+        given.clone()
+    };
+    let after = match &case.after[place] {
+        After::Numbers(cells) => cells
+            .iter()
+            .zip(&before)
+            .map(|(cell, before)| match cell {
+                Cell::Is(number) => *number,
+                _ => *before,
+            })
+            .collect(),
+        _ => before.clone(),
+    };
+    Some([before, after])
+}
+
+fn words(case: &Case, place: usize) -> Option<[Vec<u32>; 2]> {
+    let Value::Words(before) = &case.before[place] else {
+        return None;
+    };
+    let after = match &case.after[place] {
+        After::Words(words) => words.clone(),
+        _ => before.clone(),
+    };
+    Some([before.clone(), after])
+}
+
+/// Whether a case may be stored: it is compared, all that it leaves is seen, and its lists have room.
+fn is_fit(case: &Case) -> bool {
+    let is_seen = |after: &After| match after {
+        After::Numbers(cells) => !cells.iter().any(|cell| matches!(cell, Cell::Unseen)),
+        _ => true,
+    };
+    let room = |place: usize| match case.call.parameters[place] {
+        _ if is_pattern(case, place) => PATTERNS,
+        "hessian" | "jacobian" => 100,
+        "matches" if std::ptr::eq(case.call, &MATCHES_ACCUMULATE) => LONGEST,
+        _ => LONG,
+    };
+    case.call.make.is_some()
+        && case.after.iter().all(is_seen)
+        && (0..case.before.len()).all(|place| case.before[place].len() <= room(place))
+}
+
+fn is_long(case: &Case) -> bool {
+    case.before.iter().any(|value| value.len() > LONG)
+}
+
+/// Draws jobs, takes some calls of every kind, and hands back the sample's bytes with the number of its cases.
+pub fn sample(seed: u64) -> (Vec<u8>, usize) {
+    let mut lists = Lists::default();
+    let mut stored = Vec::new();
+    let mut taken: HashMap<String, usize> = HashMap::new();
+    few_states(STATES);
+    // Shorter outputs lie at the start of this one.
+    let outputs = lists.place(units_of(&old(LONG)));
+    for job in JOBS {
+        let mut seeds = Generator::named(seed, job.name);
+        for _ in 0..JOBS_DRAWN {
+            let mut cases = Vec::new();
+            (job.run)(&mut Generator::new(seeds.bits()), &mut cases);
+            for case in cases.iter().filter(|case| is_fit(case)) {
+                let (key, most) = match is_long(case) {
+                    true => ("long".to_string(), 1),
+                    false => (key(case), taken_of(case)),
+                };
+                let number = taken.entry(key).or_default();
+                if *number < most {
+                    *number += 1;
+                    stored.push(store(case, outputs, &mut lists));
+                }
+            }
+        }
+    }
+    (bytes(&stored, &lists), stored.len())
+}
+
+fn store(case: &Case, outputs: usize, lists: &mut Lists) -> Stored {
+    let call = CALLS.iter().position(|call| std::ptr::eq(*call, case.call));
+    let mut groups: [Vec<List>; 5] = Default::default();
+    for place in 0..case.before.len() {
+        if let Some([before, after]) = numbers(case, place) {
+            let mut listed = |numbers: &[f64]| List {
+                place: match numbers {
+                    _ if numbers == old(numbers.len()) && numbers.len() <= LONG => outputs,
+                    _ => lists.place(units_of(numbers)),
+                },
+                length: numbers.len(),
+            };
+            if is_pattern(case, place) {
+                groups[1].push(listed(&before));
+            } else {
+                groups[0].push(listed(&before));
+                groups[3].push(listed(&after));
+            }
+        }
+        if let Some([before, after]) = words(case, place) {
+            let mut listed = |words: Vec<u32>| List {
+                length: words.len(),
+                place: lists.place(words),
+            };
+            groups[2].push(listed(before));
+            groups[4].push(listed(after));
+        }
+    }
+    let [n, p, w] = [0, 1, 2].map(|k: usize| groups[k].len() as u32);
+    let call = call.expect("a call of the list") as u32;
+    Stored {
+        head: call | case.answer << 8 | n << 16 | p << 20 | w << 24,
+        lists: groups.concat(),
+    }
+}
+
+fn bytes(stored: &[Stored], lists: &Lists) -> Vec<u8> {
+    let from = 1 + stored
+        .iter()
+        .map(|case| 1 + case.lists.len())
+        .sum::<usize>();
+    let mut units = vec![stored.len() as u32];
+    for case in stored {
+        units.push(case.head);
+        for list in &case.lists {
+            let place = from + list.place;
+            assert!(
+                place < 1 << 19 && list.length < 1 << 13,
+                "a list that can't be named"
+            );
+            units.push(place as u32 | (list.length as u32) << 19);
+        }
+    }
+    units.extend(&lists.units);
+    units.iter().flat_map(|unit| unit.to_le_bytes()).collect()
+}
