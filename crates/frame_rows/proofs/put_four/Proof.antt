@@ -1,0 +1,37 @@
+-- `frame_rows::put_four` meets its contract: after k turns the first k numbers are written. Assumes nothing.
+use Prim.Native.Nat.{_-_}
+use mathlib.Core.Path.{refl}
+use borrow.Author.Needs.{needs}
+use Rattle.lists.specs.Part.{_!_}
+use Rattle.sums.specs.Fill.{Writing, writing-none, writing-more, writing-all}
+use Rattle.frame_rows.proofs.put_four.Statement.{statement}
+use Rattle.frame_rows.proofs.put_four.Tie as tie
+
+abbrev Inv-loop : tie.InvT-loop
+Inv-loop out₀ at v k₀ out k = Writing out₀ at 4 (λ i. v ! i) out k
+
+abbrev μ-loop : tie.MeasureT-loop
+μ-loop out₀ at v k₀ out k = 4 - k
+
+loop-again : tie.Need-loop-again Inv-loop μ-loop
+loop-again c =
+    let l = c .before .loop in
+    writing-more _ _ _ _ (l .out) (l .k) _ (search needs) (search needs) refl (l .inv)
+
+pub put-four-spec : {M : Type 1} → statement M
+put-four-spec =
+    tie.close
+    (tie.spec
+    Inv-loop
+    μ-loop
+    (λ c. writing-none _ _ _ _)
+    (λ c. search needs)
+    (λ c. search needs)
+    (λ c. search needs)
+    (λ c. search needs)
+    (λ c. search needs)
+    (λ c. search needs)
+    (λ c. search needs)
+    loop-again
+    (λ c. search needs)
+    (λ c. writing-all _ _ _ _ _ _ (c .loop-test .left) (c .before .loop .inv)))

@@ -1,0 +1,12 @@
+-- `frame_rows::root_row` meets its contract: what the callees give, put together. Assumes nothing.
+use borrow.Author.Needs.{needs}
+use Rattle.frame_rows.proofs.root_row.Statement.{statement}
+use Rattle.frame_rows.proofs.root_row.Tie as tie
+
+returns : tie.Need-returns
+returns c =
+    let s = c .before in
+    rw (c .scaled3 .ensures, s .scale .ensures, s .before .value .ensures, s .before .before .vector .ensures)
+
+pub root-row-spec : {M : Type 1} → statement M
+root-row-spec = tie.close (tie.spec (λ c κs. search needs) (λ c κs. search needs) (λ c κs. tt) (λ c κs. tt) returns)

@@ -1,0 +1,58 @@
+-- What the functions have on the way: a set's root by its rows, and columns of four written at even steps. Definitions only.
+use Prim.Native.Nat.{ℕ, zero, suc, _+_, _*_, _≤_}
+use mathlib.Core.Path.{_≡_}
+use lib.ListN.{length, drop}
+use mathlib.Core.List.{List, [], _∷_, _++_}
+use mathlib.Core.Logic.{_⊎_}
+use lib.Ieee.{Float}
+use Rattle.sums.specs.Sum.{_⊗_, tab, dot, grid}
+use Rattle.sums.specs.Fill.{written}
+use Rattle.square_root.specs.Computed.{squareRoot}
+use Rattle.derivative.specs.Derivative.{dAn, dAlong}
+use Rattle.derivative.specs.Action.{actionSize}
+use Rattle.decomposition.specs.Axes.{DECOMPOSITION}
+use Rattle.point_moments.specs.Scatter.{CENTRED}
+use Rattle.plane_fit.specs.Fit.{frameCount}
+use Rattle.frame_rows.specs.Rows.{rootRow, frameRow, blockCell, jacobianOf}
+use Rattle.frame_rows.specs.declared.Root.{Root}
+
+-- the three rows of R, and sqrt(count)
+abbrev pub rootOf : List ℕ → Float → Root
+rootOf d count = record { first = rootRow d 0; second = rootRow d 1; third = rootRow d 2; last = squareRoot count }
+
+-- the four rows for v and s
+abbrev pub rowsOf : Root → List Float → Float → Float → List Float
+rowsOf r v s info = (dot 3 (r .first) v ⊗ info) ∷ (dot 3 (r .second) v ⊗ info) ∷ (dot 3 (r .third) v ⊗ info) ∷ (r .last ⊗ s ⊗ info) ∷ []
+
+-- the four rows of column c of a frame's block
+abbrev pub columnOf : List Float → List Float → List Float → Root → Float → ℕ → List Float
+columnOf x n mean root info c = rowsOf root (tab 3 (λ l. dAn x n l c)) (dAlong x n mean c) info
+
+-- the first n columns, column c of four numbers at the place `from` + c·stride
+unfoldable pub putColumns : List Float → ℕ → ℕ → (ℕ → ℕ → Float) → ℕ → List Float
+putColumns out from stride f zero = out
+putColumns out from stride f (suc c) = written (putColumns out from stride f c) (from + c * stride) 4 (f c)
+
+-- what the work on all frames asks of the lists: an action and a decomposition for each, and outputs of the right lengths, with so many columns a frame
+pub record Room (frames actions : List Float) (ds : List ℕ) (residuals cells width : ℕ) : Type 0 where
+  pub actions-whole : length actions ≡ actionSize * frameCount frames
+  pub ds-enough : (frameCount frames + 1) * DECOMPOSITION ≤ length ds
+  pub residual-whole : residuals ≡ (frameCount frames + 1) * 4
+  pub jacobian-whole : cells ≡ frameCount frames * width * ((frameCount frames + 1) * 4)
+  pub narrow : width ≤ 9
+
+-- and on the fixed set, after so many frames
+pub record FixedRoom (fixed : List Float) (ds : List ℕ) (count residuals : ℕ) : Type 0 where
+  pub fixed-whole : (length fixed ≡ 0) ⊎ (length fixed ≡ CENTRED)
+  pub own-decomposition : (length fixed ≡ 0 → ⊥) → (count + 2) * DECOMPOSITION ≤ length ds
+  pub residual-whole : residuals ≡ (count + 1) * 4
+
+-- frame k's residuals and block, over what was there
+pub record FrameWritten (frames actions : List Float) (ds : List ℕ) (k : ℕ) (n : List Float) (offset info : Float) (width : ℕ) (residual jacobian residual′ jacobian′ : List Float) : Type 0 where
+  pub residual-is : residual′ ≡ written residual (k * 4) 4 (λ r. frameRow frames actions ds n offset info r k)
+  pub jacobian-is : jacobian′ ≡ putColumns jacobian (k * width * length residual + k * 4) (length residual) (λ c r. blockCell frames actions ds n info k c r) width
+
+-- all frames' residuals, before the fixed set's; and their blocks
+pub record FramesWritten (frames actions : List Float) (ds : List ℕ) (n : List Float) (offset info : Float) (width : ℕ) (residual residual′ jacobian′ : List Float) : Type 0 where
+  pub residual-is : residual′ ≡ grid 4 (frameCount frames) (frameRow frames actions ds n offset info) ++ drop (frameCount frames * 4) residual
+  pub jacobian-is : jacobian′ ≡ jacobianOf frames actions ds n info width
