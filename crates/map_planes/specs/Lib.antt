@@ -1,3 +1,4 @@
 pub mod Reasons
 pub mod Calls
 pub mod Accumulate
+pub mod Linearize

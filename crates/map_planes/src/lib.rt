@@ -1,17 +1,23 @@
 // Many matches on one pose: why a list is turned away, its rows, and what it adds to the normal equations.
 ghost use mathlib.Core.Path.{_≡_};
-ghost use Prim.Native.Nat.{_*_, _≤_};
+ghost use Prim.Native.Nat.{_+_, _*_, _<_, _≤_};
 ghost use mathlib.Core.Bool.{false};
-ghost use lib.ListN.{length};
+ghost use lib.ListN.{length, set};
 ghost use Rattle.refusals.specs.Refusal.{firstOf};
+ghost use Rattle.sums.specs.Sum.{grid};
+ghost use Rattle.lists.specs.Part.{_!_};
 ghost use Rattle.derivative.specs.Action.{actionSize};
 ghost use Rattle.terms.specs.Terms.{addAll};
 ghost use Rattle.normal_blocks.specs.Map.{lookup, exceeds};
 ghost use Rattle.normal_blocks.specs.Target.{hessianAt, gradientAt};
-ghost use Rattle.match_sums.specs.Groups.{listCost, listBlock, listVector};
+ghost use Rattle.map_plane.specs.Match.{MATCH};
+ghost use Rattle.match_rows.specs.Row.{residualAt, rowAt};
+ghost use Rattle.match_rows.specs.ByRows.{byRows};
+ghost use Rattle.match_sums.specs.Groups.{matchCount, listCost, listBlock, listVector};
 ghost use Rattle.call_lists.specs.Accumulated.{Accumulated};
 ghost use Rattle.map_planes.specs.Calls.{badMatches, listReasons, matchesRefusal};
 ghost use Rattle.map_planes.specs.Accumulate.{matchesCall};
+ghost use Rattle.map_planes.specs.Linearize.{badOutputs, residuals, Linearized, Placed};
 use map_plane::MATCH;
 use normal_blocks::Place;
 
@@ -127,5 +133,124 @@ pub fn accumulate(
         return 10;
     }
     *cost = add_list(width, matches, action, map, hessian, gradient);
+    0
+}
+
+// 3: not a residual for each of n matches, or a Jacobian that is neither empty nor of n rows and `width` columns.
+fn bad_outputs(n: usize, width: usize, residuals: usize, cells: usize) -> bool
+    requires { ⌜ (width ≤ 9) × (n < 2000000000000000000) ⌝ }
+    ensures { λ r. ⌜ r ≡ badOutputs n width residuals cells ⌝ }
+{
+    if residuals != n {
+        return true;
+    }
+    if cells == 0 {
+        return false;
+    }
+    cells != width * n
+}
+
+// The first `width` numbers of a row into row k of a matrix of n rows.
+fn place_row(row: &[f64; 9], k: usize, n: usize, width: usize, out: &mut [f64])
+    requires { ⌜ (width ≤ 9) × (k < n) × (width * n ≤ length (now out)) ⌝ }
+    ensures { λ _. ⌜ Placed n width k (λ c. now (row .entry) ! c) (now (out .entry)) (now (out .exit)) ⌝ }
+{
+    let mut c = 0;
+    while c < width {
+        out[c * n + k] = row[c];
+        c += 1;
+    }
+}
+
+// The same, with a copy of the code for each width.
+fn place_by(row: &[f64; 9], k: usize, n: usize, dof: usize, out: &mut [f64])
+    requires { ⌜ (dof ≤ 9) × (k < n) × (dof * n ≤ length (now out)) ⌝ }
+    ensures { λ _. ⌜ Placed n dof k (λ c. now (row .entry) ! c) (now (out .entry)) (now (out .exit)) ⌝ }
+{
+    match dof {
+        0 => place_row(row, k, n, 0, out),
+        1 => place_row(row, k, n, 1, out),
+        2 => place_row(row, k, n, 2, out),
+        3 => place_row(row, k, n, 3, out),
+        4 => place_row(row, k, n, 4, out),
+        5 => place_row(row, k, n, 5, out),
+        6 => place_row(row, k, n, 6, out),
+        7 => place_row(row, k, n, 7, out),
+        8 => place_row(row, k, n, 8, out),
+        9 => place_row(row, k, n, 9, out),
+        _ => place_row(row, k, n, dof, out),
+    }
+}
+
+// Match k of n: its residual, and its row in the Jacobian. `t` is the action by rows.
+fn write_match(
+    list: &[f64],
+    k: usize,
+    n: usize,
+    x: &[f64],
+    t: &[f64; 108],
+    dof: usize,
+    residual: &mut [f64],
+    jacobian: &mut [f64],
+)
+    requires { ⌜ (k < n) × (n * MATCH ≤ length (now list)) × (length (now x) ≡ actionSize) × (now t ≡ byRows (now x)) × (dof ≤ 9) × (length (now residual) ≡ n) × (dof * n ≤ length (now jacobian)) ⌝ }
+    ensures { λ _. ⌜ (now (residual .exit) ≡ set (now (residual .entry)) k (residualAt (now (x .entry)) (now (list .entry)) k)) × Placed n dof k (rowAt (now (x .entry)) (now (list .entry)) k) (now (jacobian .entry)) (now (jacobian .exit)) ⌝ }
+{
+    let mut row = [0.0; 9];
+    residual[k] = match_rows::residual_and_row(list, k, x, t, dof, &mut row);
+    place_by(&row, k, n, dof, jacobian);
+}
+
+// Residuals and Jacobian.
+fn write_rows(list: &[f64], x: &[f64], dof: usize, residual: &mut [f64], jacobian: &mut [f64])
+    requires { ⌜ (length (now x) ≡ actionSize) × (dof ≤ 9) × (length (now residual) ≡ matchCount (now list)) × (length (now jacobian) ≡ dof * matchCount (now list)) ⌝ }
+    ensures { λ _. ⌜ (now (residual .exit) ≡ residuals (now (x .entry)) (now (list .entry))) × (now (jacobian .exit) ≡ grid (matchCount (now (list .entry))) dof (rowAt (now (x .entry)) (now (list .entry)))) ⌝ }
+{
+    let n = list.len() / MATCH;
+    let t = match_rows::by_rows(x);
+    let mut k = 0;
+    while k < n {
+        write_match(list, k, n, x, &t, dof, residual, jacobian);
+        k += 1;
+    }
+}
+
+// Residuals alone.
+fn write_residuals(list: &[f64], x: &[f64], residual: &mut [f64])
+    requires { ⌜ (length (now x) ≡ actionSize) × (length (now residual) ≡ matchCount (now list)) ⌝ }
+    ensures { λ _. ⌜ now (residual .exit) ≡ residuals (now (x .entry)) (now (list .entry)) ⌝ }
+{
+    let n = list.len() / MATCH;
+    let mut k = 0;
+    while k < n {
+        residual[k] = match_rows::residual_at(list, k, x);
+        k += 1;
+    }
+}
+
+// The host's call: residuals, and the Jacobian by columns unless it is empty, which means not wanted. The number of the reason to refuse, or 0.
+pub fn linearize(
+    dof: u32,
+    matches: &[f64],
+    action: &[f64],
+    residual: &mut [f64],
+    jacobian: &mut [f64],
+) -> u32
+    ensures { λ r. ⌜ Linearized dof (now (matches .entry)) (now (action .entry)) r (now (residual .entry)) (now (jacobian .entry)) (now (residual .exit)) (now (jacobian .exit)) ⌝ }
+{
+    if dof > MOST_DOF {
+        return 1;
+    }
+    let width = dof as usize;
+    let misfit = bad_outputs(matches.len() / MATCH, width, residual.len(), jacobian.len());
+    let why = matches_refusal(dof, matches, misfit, action);
+    if why != 0 {
+        return why;
+    }
+    if jacobian.len() == 0 {
+        write_residuals(matches, action, residual);
+        return 0;
+    }
+    write_rows(matches, action, width, residual, jacobian);
     0
 }
