@@ -4,14 +4,16 @@ use native.Mathlib.Nat.{zero-mul, suc-mul, le-refl}
 use native.Mathlib.Numerals.{add-one}
 use native.Mathlib.Omega.{arith}
 use mathlib.Core.Path.{_≡_, ap, _∙_}
-use mathlib.Core.List.{List}
-use lib.ListN.{length, replicate}
+use mathlib.Core.List.{List, [], _++_}
+use lib.ListN.{length, take, drop, replicate, length-append, length-drop, drop-of-length-le}
+use lib.Seq.{take-at}
 use lib.Ieee.{Float}
-use Rattle.sums.specs.Sum.{zeroF}
-use Rattle.sums.specs.Fill.{Columns, columns-none, columns-more, columns-all}
+use Rattle.sums.specs.Sum.{zeroF, grid}
+use Rattle.sums.specs.Laws.{length-grid}
+use Rattle.sums.specs.Fill.{written, Columns, columns-none, columns-more, columns-all}
 use Rattle.plane_fit.specs.Fit.{frameCount}
-use Rattle.frame_rows.specs.Rows.{frameRow, blockCell, jacobianCell, jacobianOf}
-use Rattle.frame_rows.specs.Steps.{putColumns, Room, FrameWritten, FramesWritten}
+use Rattle.frame_rows.specs.Rows.{frameRow, fixedRow, residualOf, jacobianCell, jacobianOf}
+use Rattle.frame_rows.specs.Steps.{Room, FrameWritten, FramesWritten}
 use Rattle.frame_rows.specs.Cells.{block-filled}
 
 module _ (frames actions : List Float) (ds : List ℕ) (n : List Float) (offset info : Float) (width : ℕ) (residual jacobian : List Float) where
@@ -44,3 +46,18 @@ module _ (frames actions : List Float) (ds : List ℕ) (n : List Float) (offset 
       residual-is = rw e at (sofar .rows .filled);
       jacobian-is = columns-all ((frameCount frames + 1) * 4) (frameCount frames * width) (jacobianCell frames actions ds n info width) jacobian jacobian′ (k * width) (room .jacobian-whole) (rw e (le-refl (frameCount frames * width))) (sofar .cells);
     }
+
+-- the frames' rows, then the fixed set's
+pub rows-all : (frames fixed actions : List Float) (ds : List ℕ) (n : List Float) (offset info : Float) (residual residual′ residual″ : List Float) → length residual ≡ (frameCount frames + 1) * 4
+    → residual′ ≡ grid 4 (frameCount frames) (frameRow frames actions ds n offset info) ++ drop (frameCount frames * 4) residual
+    → residual″ ≡ written residual′ (frameCount frames * 4) 4 (fixedRow (frameCount frames) fixed ds n offset info)
+    → residual″ ≡ residualOf frames fixed actions ds n offset info
+unfolding residualOf written
+rows-all frames fixed actions ds n offset info residual residual′ residual″ size e f =
+    let at = frameCount frames * 4 in
+    let front = grid 4 (frameCount frames) (frameRow frames actions ds n offset info) in
+    let m : length front ≡ at = length-grid 4 (frameCount frames) _ in
+    let left : take at residual′ ≡ front = rw e (take-at front (drop at residual) at m) in
+    let long : length residual′ ≤ at + 4 = rw e (simp (length-append, length-drop, m) (omega arith)) in
+    let rest : drop (at + 4) residual′ ≡ [] = drop-of-length-le residual′ long in
+    f ∙ rw (left, rest)

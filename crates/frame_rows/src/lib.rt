@@ -9,7 +9,7 @@ ghost use Rattle.lists.specs.Part.{_!_};
 ghost use Rattle.decomposition.specs.Axes.{DECOMPOSITION};
 ghost use Rattle.derivative.specs.Action.{actionSize};
 ghost use Rattle.plane_fit.specs.Fit.{frameCount};
-ghost use Rattle.frame_rows.specs.Rows.{scaleOf, rootRow, decompositionAt, fixedRow};
+ghost use Rattle.frame_rows.specs.Rows.{scaleOf, rootRow, decompositionAt, fixedRow, residualOf, jacobianOf};
 ghost use Rattle.frame_rows.specs.Steps.{rootOf, rowsOf, columnOf, putColumns, Room, FixedRoom, FrameWritten, FramesWritten};
 use decomposition::DECOMPOSITION;
 use plane_fit::ACTION;
@@ -178,7 +178,7 @@ fn write_frame(
 }
 
 // The residuals of all frames, and their blocks into a Jacobian that is +0 everywhere.
-pub fn write_frames(
+fn write_frames(
     frames: &[f64],
     actions: &[f64],
     ds: &[u64],
@@ -210,7 +210,7 @@ pub fn write_frames(
 }
 
 // The four residuals of the fixed set after so many frames, +0 where there is none.
-pub fn write_fixed(
+fn write_fixed(
     fixed: &[f64],
     ds: &[u64],
     count: usize,
@@ -235,4 +235,34 @@ pub fn write_fixed(
         at,
         root.rows(n, frame_normal::along(n, offset, mean), info),
     );
+}
+
+// All residuals, and all blocks into a Jacobian that is +0 everywhere.
+pub fn write_all(
+    frames: &[f64],
+    fixed: &[f64],
+    actions: &[f64],
+    ds: &[u64],
+    n: [f64; 3],
+    offset: f64,
+    info: f64,
+    width: usize,
+    residual: &mut [f64],
+    jacobian: &mut [f64],
+)
+    requires { ⌜ (now jacobian ≡ replicate (length (now jacobian)) zeroF) × Room (now frames) (now actions) (now ds) (length (now residual)) (length (now jacobian)) width × FixedRoom (now fixed) (now ds) (frameCount (now frames)) (length (now residual)) ⌝ }
+    ensures { λ _. ⌜ (now (residual .exit) ≡ residualOf (now (frames .entry)) (now (fixed .entry)) (now (actions .entry)) (now (ds .entry)) n offset info) × (now (jacobian .exit) ≡ jacobianOf (now (frames .entry)) (now (actions .entry)) (now (ds .entry)) n info width) ⌝ }
+{
+    write_frames(
+        frames,
+        actions,
+        ds,
+        n,
+        offset,
+        info,
+        width,
+        residual,
+        jacobian,
+    );
+    write_fixed(fixed, ds, frames.len() / CENTRED, n, offset, info, residual);
 }
