@@ -1,6 +1,7 @@
 //! The original over the stand-ins gives what document 01 and the formulas worked out on paper say, and the comparison
 //! sees an answer that is wrong.
 
+use apex_manifolds::capability::ActsOnPoints3;
 use apex_manifolds::{Affine, LieGroup};
 use faer::mat::MatMut;
 use nalgebra::{eigen, DMatrix, DVector, Matrix3, Vector3};
@@ -113,6 +114,35 @@ fn the_factor_in_whole_numbers() {
     );
     assert_eq!(residual, [4.0, 0.0, 0.0, 0.0, 0.0, 0.0, 0.0, 0.0]);
     assert_eq!(jacobian, [4.0, 0.0, 0.0, 16.0, 0.0, 0.0, 0.0, 0.0]);
+}
+
+/// Accumulates one frame at an offset into a Hessian of order n, by a fit with these eigenvalues.
+fn accumulated<G: ActsOnPoints3 + Send + Sync + 'static>(
+    params: &[f64],
+    values: [f64; 3],
+    n: usize,
+    offset: usize,
+) -> Option<f64> {
+    let factor = beside::of_centred::<G>(&[[4.0; 13]], None, 1.0);
+    let mut hessian = DMatrix::from_fn(n, n, |_, _| 0.0);
+    let mut gradient = DVector::from_fn(n, |_, _| 0.0);
+    eigen::hand_in([along_axes(values)]);
+    let offsets = [offset];
+    let mut blocks = NormalBlocks::new(&mut hessian, &mut gradient, &offsets);
+    factor.accumulate_normal(&[params], Some(&mut blocks))
+}
+
+#[test]
+#[should_panic(expected = "out of bounds")]
+fn a_segment_past_the_end_panics() {
+    accumulated::<Affine<1>>(&state(), [0.0, 1.0, 2.0], 1, 1);
+}
+
+#[test]
+fn without_a_plane_or_a_parameter_it_does_not() {
+    let cost = accumulated::<Affine<1>>(&state(), [1.0, 1.0, 1.0], 1, 1);
+    assert_eq!(cost, Some(0.0));
+    assert!(accumulated::<Affine<0>>(&state()[..12], [0.0, 1.0, 2.0], 0, 1).is_some());
 }
 
 #[test]

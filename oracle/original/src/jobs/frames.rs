@@ -37,6 +37,7 @@ fn of_group<G: Tried>(generator: &mut Generator, cases: &mut Vec<Case>) {
         job.accumulate(wanted, generator, cases);
         job.linearize(wanted, generator, cases);
     }
+    job.miscounted(generator, cases);
     refused::add(cases, generator);
 }
 
@@ -425,6 +426,21 @@ impl<G: Tried> Built<G> {
             before,
             after,
         ));
+    }
+}
+
+impl<G: Tried> Built<G> {
+    /// For every eighth job, the last two calls with one action too many or too few: what the Rust's `expect_count` refuses
+    /// above the factor.
+    fn miscounted(&self, generator: &mut Generator, cases: &mut Vec<Case>) {
+        if generator.below(8) != 0 {
+            return;
+        }
+        let count = self.states.len() - 1 + 2 * generator.below(2) as usize;
+        let number = refused::number_of_variables::<G>(&self.factor, count);
+        for from in [cases.len() - 1, cases.len() - 2] {
+            cases.push(refused::with_actions(&cases[from], count, number));
+        }
     }
 }
 

@@ -121,6 +121,13 @@ fn of_group<G: Tried>(generator: &mut Generator, cases: &mut Vec<Case>) {
         job.linearize(wanted, generator, cases);
         job.accumulate(wanted, generator, cases);
     }
+    if let (Ok(factor), 0) = (&job.factor, generator.below(8)) {
+        let count = 2 * generator.below(2) as usize;
+        let number = refused::number_of_variables::<G>(factor, count);
+        for from in [cases.len() - 1, cases.len() - 2] {
+            cases.push(refused::with_actions(&cases[from], count, number));
+        }
+    }
     refused::add(cases, generator);
 }
 

@@ -2,9 +2,13 @@
 //! spoilt. Here document 01 says the number and not the original; of two reasons the lower-placed one is answered.
 
 use super::draw;
+use super::tried::Tried;
 use crate::calls::Value;
 use crate::case::{place, Case};
+use crate::core::variable::ManifoldVariable;
+use crate::factors::{Factor, FactorError};
 use oracle::generator::Generator;
+use std::marker::PhantomData;
 
 /// A parameter spoilt, and the reason.
 struct Spoilt {
@@ -149,6 +153,48 @@ fn words(case: &Case, generator: &mut Generator) -> Vec<Spoilt> {
         }
     }
     spoils
+}
+
+/// A variable that a factor is registered with.
+struct Variable<G>(PhantomData<G>);
+
+impl<G: Tried> ManifoldVariable for Variable<G> {
+    fn as_param_slice(&self) -> &[f64] {
+        &[]
+    }
+
+    fn dof(&self) -> usize {
+        G::DOF
+    }
+
+    fn manifold_type_name(&self) -> &'static str {
+        G::NAME
+    }
+}
+
+/// The number of the refusal of a factor that is registered with so many variables.
+pub fn number_of_variables<G: Tried>(factor: &dyn Factor, count: usize) -> u32 {
+    let variable = Variable::<G>(PhantomData);
+    let variables = vec![&variable as &dyn ManifoldVariable; count];
+    match factor.validate_variables(&variables) {
+        Ok(()) => 0,
+        Err(FactorError::VariableCount { .. }) => 8,
+        Err(error) => panic!("no number for {error:?}"),
+    }
+}
+
+/// An accepted call with another number of actions, and the number of its refusal.
+pub fn with_actions(case: &Case, count: usize, number: u32) -> Case {
+    let mut before = case.before.clone();
+    let is_actions = |name: &&str| name.starts_with("action");
+    let place = case.call.parameters.iter().position(is_actions);
+    before[place.expect("a call with actions")] = Value::Numbers(vec![1.0; 120 * count]);
+    Case::refused(
+        case.call,
+        "another number of actions".to_string(),
+        before,
+        number,
+    )
 }
 
 fn place_of(case: &Case, name: &str) -> usize {
