@@ -1,0 +1,56 @@
+-- THE BOOK, from document 01's "Many calls on one Hessian": it holds the cells, at the start with their first content, and is fed each call's own
+-- inputs alone, in the list's order. Definitions only.
+use Prim.Native.Nat.{ℕ, zero, suc}
+use mathlib.Core.List.{List, [], _∷_}
+use lib.Ieee.{Float}
+use Rattle.sums.specs.Sum.{zeroF}
+use Rattle.call_lists.specs.Calls.{Answer, refusal, cost}
+use Rattle.call_lists.specs.Frames.{Frames, hessianCell, gradientCell}
+use Rattle.plane_fit.specs.declared.axis.Fit.{Fit}
+use Rattle.plane_fit.specs.declared.axis.Fit.the-variants.{Plane, NoPlane}
+use Rattle.plane_moments.specs.Accumulate.{FramesWork, fitOf, framesOf, costUnder}
+use Rattle.match_sums.specs.Groups.{listCost}
+use Rattle.map_planes.specs.Accumulate as map_planes
+use Rattle.normal_list.specs.Work.{Work, frames, matches, refusalOf}
+
+-- what the book works out for one call: what the call answers, and what it makes of the content of Hessian cell (i, j) and of gradient cell i
+pub record Page : Type 0 where
+  pub answer : Answer
+  pub hessian : ℕ → ℕ → Float → Float
+  pub gradient : ℕ → Float → Float
+
+-- no cell changed
+abbrev pub unchanged : Answer → Page
+unchanged a = record { answer = a; hessian = λ i j x. x; gradient = λ i x. x }
+
+-- frame after frame, each entry worked out from the own inputs and added to its cell, each sum rounded once
+abbrev pub entered : Float → Frames → Page
+entered x f = record { answer = cost x; hessian = hessianCell f (f .count); gradient = gradientCell f (f .count) }
+
+-- "Accepted frames: the cost by the steps above; then, frame after frame, each term"; "No plane: cost 0, no cell changed"
+abbrev pub framesPage : FramesWork → Fit → Page
+framesPage w (Plane a b c offset) = entered (costUnder w (a ∷ b ∷ c ∷ []) offset) (framesOf w (a ∷ b ∷ c ∷ []) offset)
+framesPage w NoPlane = unchanged (cost zeroF)
+
+-- "Accepted matches: likewise as one frame, summed by groups"
+abbrev pub acceptedPage : Work → Page
+acceptedPage (frames w) = framesPage w (fitOf w)
+acceptedPage (matches w) = entered (listCost (w .action) (w .matches)) (map_planes.framesOf w)
+
+-- "A refused call: its number, no cell changed"
+abbrev pub judgedPage : ℕ → Page → Page
+judgedPage zero p = p
+judgedPage (suc k) p = unchanged (refusal (suc k))
+
+-- the page of a call with a Hessian of m cells and a gradient of n
+unfoldable pub pageOf : ℕ → ℕ → Work → Page
+pageOf m n w = judgedPage (refusalOf m n w) (acceptedPage w)
+
+-- the book of one cell: page after page
+unfoldable pub hessianBook : ℕ → ℕ → List Work → ℕ → ℕ → Float → Float
+hessianBook m n [] i j x = x
+hessianBook m n (w ∷ ws) i j x = hessianBook m n ws i j (pageOf m n w .hessian i j x)
+
+unfoldable pub gradientBook : ℕ → ℕ → List Work → ℕ → Float → Float
+gradientBook m n [] i x = x
+gradientBook m n (w ∷ ws) i x = gradientBook m n ws i (pageOf m n w .gradient i x)
