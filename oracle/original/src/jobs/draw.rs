@@ -11,41 +11,51 @@ pub enum Temper {
     Met,
     /// Huge, tiny, zeros of both signs, overflowing.
     Hostile,
+    /// Zeros of both signs and ones: where a sum starts shows in the sign of a zero.
+    Zeros,
 }
 
 impl Temper {
-    /// As they are met, in two jobs of three.
+    /// As they are met, in half the jobs.
     pub fn random(generator: &mut Generator) -> Temper {
-        generator.pick(&[Temper::Met, Temper::Met, Temper::Hostile])
+        use Temper::{Hostile, Met, Zeros};
+        generator.pick(&[Met, Met, Met, Hostile, Hostile, Zeros])
     }
-}
 
-/// Any numbers: of one size each, some special among them.
-pub fn any(length: usize, generator: &mut Generator) -> Vec<f64> {
-    let mut numbers = vec![0.0; length];
-    draws::fill(&mut numbers, generator);
-    numbers
-}
-
-/// Any finite numbers: an infinity or a NaN becomes a number of measured size.
-pub fn any_finite(length: usize, generator: &mut Generator) -> Vec<f64> {
-    let mut numbers = any(length, generator);
-    for number in &mut numbers {
-        if !number.is_finite() {
-            *number = within(-50.0, 50.0, generator);
+    /// Numbers of a job that are not as they are met.
+    pub fn any(self, length: usize, generator: &mut Generator) -> Vec<f64> {
+        let mut numbers = vec![0.0; length];
+        match self {
+            Temper::Zeros => {
+                let list = [0.0, -0.0, 0.0, -0.0, -0.0, 1.0, -1.0];
+                numbers.fill_with(|| generator.pick(&list));
+            }
+            // Of one size each, some special among them.
+            _ => draws::fill(&mut numbers, generator),
         }
+        numbers
     }
-    numbers
+
+    /// Such numbers, finite: an infinity or a NaN becomes a number of measured size.
+    pub fn any_finite(self, length: usize, generator: &mut Generator) -> Vec<f64> {
+        let mut numbers = self.any(length, generator);
+        for number in &mut numbers {
+            if !number.is_finite() {
+                *number = within(-50.0, 50.0, generator);
+            }
+        }
+        numbers
+    }
 }
 
 /// Numbers of which one or two, or all, are any.
-pub fn spoilt(mut numbers: Vec<f64>, generator: &mut Generator) -> Vec<f64> {
+pub fn spoilt(mut numbers: Vec<f64>, temper: Temper, generator: &mut Generator) -> Vec<f64> {
     match generator.below(3) {
-        0 => any(numbers.len(), generator),
+        0 => temper.any(numbers.len(), generator),
         _ => {
             for _ in 0..=generator.below(2) {
                 let place = generator.below(numbers.len() as u64) as usize;
-                numbers[place] = any(1, generator)[0];
+                numbers[place] = temper.any(1, generator)[0];
             }
             numbers
         }
@@ -76,6 +86,7 @@ pub fn sigma(temper: Temper, generator: &mut Generator) -> f64 {
             let measured = within(0.001, 0.3, generator);
             generator.pick(&[0.1, 0.5, measured])
         }
+        Temper::Zeros => generator.pick(&[0.5, 1.0, 2.0]),
         Temper::Hostile => generator.pick(&[1e-320, 1e-200, 1e-100, 3.0, 1e100, 1e200, f64::MAX]),
     }
 }

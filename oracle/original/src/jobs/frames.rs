@@ -87,9 +87,10 @@ fn seen(piece: &Wall, action: &[f64], generator: &mut Generator) -> Vec<f64> {
 }
 
 /// A set of finite moments of a positive count.
-fn hostile_set(generator: &mut Generator) -> Vec<f64> {
-    let mut record = draw::any_finite(13, generator);
+fn any_set(temper: Temper, generator: &mut Generator) -> Vec<f64> {
+    let mut record = temper.any_finite(13, generator);
     record[0] = match generator.below(4) {
+        _ if temper == Temper::Zeros => generator.pick(&[1.0, 2.0, 3.0]),
         0 => generator.pick(&[5e-324, 1.0, 3.0, 1e300, f64::MAX]),
         _ => record[0].abs().max(1e-300),
     };
@@ -115,14 +116,14 @@ fn build<G: Tried>(
         .iter()
         .map(|state| match temper {
             Temper::Met => seen(&piece, &action::beside::of_state::<G>(state), generator),
-            Temper::Hostile => hostile_set(generator),
+            _ => any_set(temper, generator),
         })
         .collect();
     let mut fixed = match (generator.below(6), temper) {
         (0..2, _) => Vec::new(),
         (2, _) => vec![0.0; 13],
         (_, Temper::Met) => draws::record_of(&piece, generator).to_vec(),
-        (_, Temper::Hostile) => hostile_set(generator),
+        _ => any_set(temper, generator),
     };
     let mut sigma = draw::sigma(temper, generator);
     if generator.below(4) == 0 {
@@ -236,9 +237,9 @@ impl<G: Tried> Built<G> {
     ) -> Self {
         let mut factor = factor;
         let mut label = format!("{temper:?}");
-        if temper == Temper::Hostile && generator.below(3) == 0 {
+        if temper != Temper::Met && generator.below(3) == 0 {
             let mut set = || -> CentredNumbers {
-                let drawn = draw::any(13, generator);
+                let drawn = temper.any(13, generator);
                 std::array::from_fn(|place| drawn[place])
             };
             let sets: Vec<CentredNumbers> = states.iter().map(|_| set()).collect();

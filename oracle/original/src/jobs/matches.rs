@@ -52,10 +52,10 @@ pub fn of_numbers(numbers: &[f64]) -> PlaneMatch {
 /// most, the point are such as are taken.
 pub fn drawn(temper: Temper, action: &[f64], generator: &mut Generator) -> Vec<f64> {
     let sigma = draw::sigma(temper, generator);
-    if temper == Temper::Hostile {
+    if temper != Temper::Met {
         let numbers = [
-            draw::any_finite(3, generator),
-            draw::any(4, generator),
+            temper.any_finite(3, generator),
+            temper.any(4, generator),
             vec![sigma],
         ];
         return numbers.concat();

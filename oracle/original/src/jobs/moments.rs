@@ -49,7 +49,7 @@ fn points(temper: Temper, generator: &mut Generator) -> Vec<f64> {
             let piece = draw::piece(generator);
             (0..length).flat_map(|_| piece.point(generator)).collect()
         }
-        Temper::Hostile => (0..length).flat_map(|_| draw::any(3, generator)).collect(),
+        _ => (0..length).flat_map(|_| temper.any(3, generator)).collect(),
     }
 }
 
@@ -71,11 +71,12 @@ pub fn run(generator: &mut Generator, cases: &mut Vec<Case>) {
     let moments = match temper {
         Temper::Met => of_points,
         Temper::Hostile => of_numbers(&draws::record(generator)),
+        Temper::Zeros => of_numbers(&temper.any(13, generator)),
     };
     let record = numbers(&moments);
     let point = match temper {
         Temper::Met => draw::piece(generator).point(generator).to_vec(),
-        Temper::Hostile => draw::any(3, generator),
+        _ => temper.any(3, generator),
     };
     let mut pushed = moments;
     pushed.push(&vector(&point));
@@ -87,18 +88,16 @@ pub fn run(generator: &mut Generator, cases: &mut Vec<Case>) {
     ));
 
     let other = match temper {
-        Temper::Met => draws::record_of(&draw::piece(generator), generator),
-        Temper::Hostile => draws::record(generator),
+        Temper::Met => draws::record_of(&draw::piece(generator), generator).to_vec(),
+        Temper::Hostile => draws::record(generator).to_vec(),
+        Temper::Zeros => temper.any(13, generator),
     };
     let mut merged = moments;
     merged.merge(&of_numbers(&other));
     cases.push(Case::accepted(
         &calls::MERGE,
         kind(""),
-        vec![
-            Value::Numbers(record.clone()),
-            Value::Numbers(other.to_vec()),
-        ],
+        vec![Value::Numbers(record.clone()), Value::Numbers(other)],
         [("moments", After::numbers(&numbers(&merged)))],
     ));
 
@@ -107,7 +106,7 @@ pub fn run(generator: &mut Generator, cases: &mut Vec<Case>) {
             let pose = draws::Pose::random(generator);
             (draws::stored(pose.rotation), pose.shift.to_vec())
         }
-        Temper::Hostile => (draw::any(9, generator), draw::any(3, generator)),
+        _ => (temper.any(9, generator), temper.any(3, generator)),
     };
     let moved = moments.transformed(&matrix(&a), &vector(&b));
     cases.push(Case::accepted(

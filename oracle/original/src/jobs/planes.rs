@@ -24,9 +24,9 @@ fn new(temper: Temper, generator: &mut Generator) -> Case {
         (Temper::Met, _) => (0..3).map(|_| within(-5.0, 5.0, generator)).collect(),
         // About the least norm that is taken.
         (Temper::Hostile, 0) => (0..3).map(|_| within(-1e-12, 1e-12, generator)).collect(),
-        (Temper::Hostile, _) => draw::any(3, generator),
+        _ => temper.any(3, generator),
     };
-    let offset = draw::any(1, generator)[0];
+    let offset = temper.any(1, generator)[0];
     let answer = Plane::new(vector(&normal), offset);
     let before = vec![
         Value::Numbers(normal),
@@ -63,7 +63,7 @@ fn sigma(temper: Temper, generator: &mut Generator) -> Case {
                 draws::stored(draws::rotation(generator)),
             ]
         }
-        Temper::Hostile => [4, 3, 36, 9, 3, 9].map(|length| draw::any(length, generator)),
+        _ => [4, 3, 36, 9, 3, 9].map(|length| temper.any(length, generator)),
     };
     let answer = point_to_plane_sigma(
         &Plane {

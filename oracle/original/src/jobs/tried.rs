@@ -48,7 +48,7 @@ fn turn(generator: &mut Generator) -> Vec<f64> {
 fn tempered(met: Vec<f64>, temper: Temper, generator: &mut Generator) -> Vec<f64> {
     match temper {
         Temper::Met => met,
-        Temper::Hostile => draw::spoilt(met, generator),
+        _ => draw::spoilt(met, temper, generator),
     }
 }
 
@@ -87,7 +87,7 @@ impl<const D: usize> Tried for Affine<D> {
             Temper::Met => (0..Self::PARAMS)
                 .map(|_| within(-2.0, 2.0, generator))
                 .collect(),
-            Temper::Hostile => draw::any(Self::PARAMS, generator),
+            _ => temper.any(Self::PARAMS, generator),
         }
     }
 }
