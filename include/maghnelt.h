@@ -27,6 +27,8 @@ extern "C" {
 /* The most that one call takes. */
 #define MAGHNELT_MAX_FRAMES 256   /* frames of one plane */
 #define MAGHNELT_MAX_WORDS 1024   /* words of a block map or of an index list */
+#define MAGHNELT_MAX_ORDER 1024   /* rows of a Hessian */
+#define MAGHNELT_MAX_MATCHES 65536
 
 /*
  * A word of a block map says where a frame goes: below this one it is an offset, the row at which the frame's segment
@@ -132,6 +134,41 @@ uint32_t maghnelt_frames_build(uint32_t dof, const double *frames, size_t frames
 uint32_t maghnelt_frames_fit(uint32_t dof, const double *frames, size_t frames_length, const double *fixed,
                              size_t fixed_length, const double *actions, size_t actions_length, double *out,
                              size_t out_length);
+
+/*
+ * Fits the plane by the decomposition of what _fit gave (MAGHNELT_DECOMPOSITION numbers, in any order of the eigenvalues),
+ * and adds the frames' normal equations to a Hessian of n by n and a gradient of n numbers, n being at most
+ * MAGHNELT_MAX_ORDER: for each mapped frame, one after the other, dof rows and columns from its offset on. *cost is the
+ * weighted sum of squared distances over all frames, mapped or not, and the fixed set. Without a plane (the two least
+ * eigenvalues are not more than 1e-14 times the larger of 1 and the third apart) *cost is 0, and nothing else is written.
+ * Hessian, gradient and map may all be empty. Refused by 1, 2, 3, 7, 8, 9 and 10.
+ */
+uint32_t maghnelt_frames_accumulate(uint32_t dof, const double *frames, size_t frames_length, const double *fixed,
+                                    size_t fixed_length, double sigma, const double *actions, size_t actions_length,
+                                    const double *decomposition, size_t decomposition_length, const uint32_t *map,
+                                    size_t map_length, double *hessian, size_t hessian_length, double *gradient,
+                                    size_t gradient_length, double *cost);
+
+/* ---- matches on one pose: 1 to MAGHNELT_MAX_MATCHES matches of MAGHNELT_MATCH numbers, and one action ---- */
+
+/*
+ * Adds the matches' normal equations to a Hessian of n by n and a gradient of n numbers, n being at most
+ * MAGHNELT_MAX_ORDER, in the dof rows and columns from the offset on that word 0 of the map gives; *cost is the sum of
+ * squared residuals. A list that is not mapped costs and writes nothing else; Hessian, gradient and map may all be empty.
+ * Matches are summed in groups of 512, and then the groups. Refused by 1, 2, 3, then match by match by 6 and 7, by 8, 9
+ * and 10.
+ */
+uint32_t maghnelt_matches_accumulate(uint32_t dof, const double *matches, size_t matches_length, const double *action,
+                                     size_t action_length, const uint32_t *map, size_t map_length, double *hessian,
+                                     size_t hessian_length, double *gradient, size_t gradient_length, double *cost);
+
+/*
+ * The residual of each match, and the Jacobian, a row for each match and dof columns, column after column; an empty
+ * Jacobian is not wanted. Refused by 1, 2, 3, then match by match by 6 and 7, and by 8.
+ */
+uint32_t maghnelt_matches_linearize(uint32_t dof, const double *matches, size_t matches_length, const double *action,
+                                    size_t action_length, double *residual, size_t residual_length, double *jacobian,
+                                    size_t jacobian_length);
 
 #ifdef __cplusplus
 }

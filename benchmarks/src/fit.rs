@@ -1,48 +1,12 @@
 //! The mean and the scatter that a plane is fitted to, against plain Rust on plain arrays of the same layout.
 
 use crate::harness::measure_written;
-use maghnelt::{slices, ACTION, CENTRED};
-use oracle::draws::{Pose, Wall};
+use crate::planes::Plane;
+use maghnelt::slices;
 use oracle::generator::Generator;
-use oracle::model::frames::centred;
-use oracle::scenes::{action_of, seen_from};
 
 /// Frames that a batch goes through, in as many planes as that makes.
 const FRAMES: usize = 512;
-
-/// What a plane is fitted to.
-struct Plane {
-    frames: Vec<[f64; CENTRED]>,
-    actions: Vec<[f64; ACTION]>,
-    fixed: [f64; CENTRED],
-}
-
-impl Plane {
-    fn random(frames: usize, generator: &mut Generator) -> Plane {
-        let wall = Wall::random(generator);
-        let mut seen = |pose: &Pose| {
-            let moments = seen_from(pose, &wall, generator);
-            let mut record = [0.0; CENTRED];
-            centred(moments)
-                .expect("a wall has points")
-                .write(&mut record);
-            record
-        };
-        let mut poses = Generator::named(754, "poses");
-        let poses: Vec<Pose> = (0..frames).map(|_| Pose::random(&mut poses)).collect();
-        Plane {
-            frames: poses.iter().map(&mut seen).collect(),
-            fixed: seen(&poses[0]),
-            actions: poses
-                .iter()
-                .map(|pose| {
-                    let action = action_of(pose, 9, generator);
-                    action.try_into().expect("an action has 120 numbers")
-                })
-                .collect(),
-        }
-    }
-}
 
 /// Prints the rows of the fit.
 pub fn measure_all() {

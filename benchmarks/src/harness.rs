@@ -6,8 +6,11 @@
 use std::hint::black_box;
 use std::time::{Duration, Instant};
 
-/// Rounds that are timed, each with a batch of either side.
+/// Rounds that are timed, each with a batch of either side; fewer where a batch takes long, but never below the second.
 const ROUNDS: usize = 501;
+const FEWEST_ROUNDS: usize = 41;
+/// A side takes about this long at most, but for the fewest rounds.
+const WHOLE: Duration = Duration::from_millis(400);
 /// Rounds before these, until caches, branch predictor and clock rate have settled.
 const WARM_UP_ROUNDS: usize = 50;
 /// A batch of the quicker side takes at least this long, so that reading the clock does not show.
@@ -29,8 +32,12 @@ pub fn measure(
     mut rust: impl FnMut(),
 ) {
     let turns = turns_of_a_batch(&mut library).max(turns_of_a_batch(&mut rust));
-    let mut rounds = Vec::with_capacity(ROUNDS);
-    for round in 0..WARM_UP_ROUNDS + ROUNDS {
+    let batch = time(turns, &mut library).max(time(turns, &mut rust));
+    // An odd number, so that there is a middle one.
+    let number = ((WHOLE.as_secs_f64() / batch) as usize).clamp(FEWEST_ROUNDS, ROUNDS) | 1;
+    let warm_up = WARM_UP_ROUNDS.min(number / 4);
+    let mut rounds = Vec::with_capacity(number);
+    for round in 0..warm_up + number {
         // Whoever goes second may find a warmer machine, so that they take turns at that too.
         let (of_library, of_rust);
         if round % 2 == 0 {
@@ -40,7 +47,7 @@ pub fn measure(
             of_rust = time(turns, &mut rust);
             of_library = time(turns, &mut library);
         }
-        if round >= WARM_UP_ROUNDS {
+        if round >= warm_up {
             rounds.push((of_library, of_rust));
         }
     }

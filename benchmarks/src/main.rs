@@ -3,9 +3,12 @@
 mod block_map;
 mod derivative_rows;
 mod fit;
+mod frames;
 mod harness;
+mod matches;
 mod moments;
 mod plane;
+mod planes;
 mod square_root;
 mod total_order;
 
@@ -20,6 +23,8 @@ const SUBJECTS: &[Subject] = &[
     ("derivative_rows", derivative_rows::measure_all),
     ("block_map", block_map::measure_all),
     ("fit", fit::measure_all),
+    ("frames", frames::measure_all),
+    ("matches", matches::measure_all),
 ];
 
 /// Measures the subjects that are named, or all.

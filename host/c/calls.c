@@ -163,6 +163,69 @@ static void fit(void) {
            "the same with a fixed point");
 }
 
+/* The plane x = 1 through a square that lies across it, on a pose that one parameter moves along x and stretches. */
+static void frame_factor(void) {
+    const double frames[MAGHNELT_CENTRED] = {4, 1, 1, 0, 4, 0, 0, 0, 4, 0, 0, 0, 0};
+    const double none[1] = {0};
+    double actions[MAGHNELT_ACTION] = {1, 0, 0, 0, 1, 0, 0, 0, 1, 0, 0, 0, 3};
+    double decompositions[MAGHNELT_DECOMPOSITION] = {0, 1, 2, 1, 0, 0, 0, 1, 0, 0, 0, 1};
+    const uint32_t map[] = {0};
+    const uint32_t bad[] = {0, MAGHNELT_UNMAPPED + 1};
+    double hessian[1] = {0};
+    double gradient[1] = {0};
+    double cost = 7;
+
+    actions[39] = 1;
+    expect(maghnelt_frames_accumulate(1, SLICE(frames), none, 0, 0.5, SLICE(actions), decompositions, MAGHNELT_DECOMPOSITION,
+                                      SLICE(bad), SLICE(hessian), SLICE(gradient), &cost) == 9 &&
+               cost == 7 && hessian[0] == 0,
+           "a bad word is refused");
+    expect(maghnelt_frames_accumulate(1, SLICE(frames), none, 0, 0.5, SLICE(actions), decompositions, MAGHNELT_DECOMPOSITION,
+                                      SLICE(map), SLICE(hessian), SLICE(gradient), &cost) == 0 &&
+               cost == 16 && hessian[0] == 272 && gradient[0] == 16,
+           "a frame costs, and its block and vector are added");
+    decompositions[0] = 1;
+    expect(maghnelt_frames_accumulate(1, SLICE(frames), none, 0, 0.5, SLICE(actions), decompositions, MAGHNELT_DECOMPOSITION,
+                                      SLICE(map), SLICE(hessian), SLICE(gradient), &cost) == 0 &&
+               cost == 0 && hessian[0] == 272,
+           "without a plane nothing is added");
+}
+
+/* Two matches with the plane x = 0, on a pose that one parameter moves along x. */
+static void matches(void) {
+    double list[2 * MAGHNELT_MATCH] = {2, 0, 0, 1, 0, 0, 0, 0.5, -1, 0, 0, 1, 0, 0, 0, 1};
+    double action[MAGHNELT_ACTION] = {1, 0, 0, 0, 1, 0, 0, 0, 1, 0, 0, 0, 3};
+    const uint32_t map[] = {1};
+    const uint32_t past[] = {2};
+    double hessian[4] = {1, 1, 1, 1};
+    double gradient[2] = {1, 1};
+    double cost = 7;
+    double residual[2];
+    double jacobian[2];
+
+    expect(maghnelt_matches_accumulate(1, SLICE(list), SLICE(action), SLICE(past), SLICE(hessian), SLICE(gradient), &cost) ==
+                   10 &&
+               cost == 7 && hessian[3] == 1,
+           "a segment past the end is refused");
+    expect(maghnelt_matches_accumulate(1, SLICE(list), SLICE(action), SLICE(map), SLICE(hessian), SLICE(gradient), &cost) ==
+                   0 &&
+               cost == 17,
+           "matches cost");
+    expect(hessian[3] == 46 && hessian[0] == 1 && hessian[1] == 1 && hessian[2] == 1, "a block is added at its offset");
+    expect(gradient[0] == 1 && gradient[1] == 22, "a vector is added at its offset");
+    cost = 7;
+    expect(maghnelt_matches_accumulate(1, SLICE(list), SLICE(action), map, 0, hessian, 0, gradient, 0, &cost) == 0 &&
+               cost == 17 && hessian[3] == 46,
+           "the cost alone");
+    expect(maghnelt_matches_linearize(1, SLICE(list), SLICE(action), SLICE(residual), SLICE(jacobian)) == 0 &&
+               residual[0] == 4 && residual[1] == -1 && jacobian[0] == 6 && jacobian[1] == 3,
+           "residuals and their derivatives");
+    list[7] = 0;
+    list[8] = INFINITY;
+    expect(maghnelt_matches_linearize(1, SLICE(list), SLICE(action), SLICE(residual), jacobian, 0) == 7 && residual[0] == 4,
+           "the first bad match decides");
+}
+
 int main(void) {
     leaves();
     moments();
@@ -171,5 +234,7 @@ int main(void) {
     block_maps();
     build();
     fit();
+    frame_factor();
+    matches();
     return failures != 0;
 }

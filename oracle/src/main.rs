@@ -2,8 +2,8 @@
 
 use oracle::generator::Generator;
 use oracle::groups::{
-    frames_build, frames_fit, moments, moments_plane, number, order, plane_new, remap, root_steps,
-    scatter, sigma, sqrt,
+    frames_accumulate, frames_build, frames_fit, lists, matches_accumulate, matches_linearize,
+    moments, moments_plane, number, order, plane_new, remap, root_steps, scatter, sigma, sqrt,
 };
 use oracle::report::Report;
 use std::process::ExitCode;
@@ -74,6 +74,26 @@ const GROUPS: &[Group] = &[
         name: "frames_fit",
         about: "mean and scatter over the frames of a plane against a model",
         run: frames_fit::run,
+    },
+    Group {
+        name: "frames_accumulate",
+        about: "normal equations of frames against a model",
+        run: frames_accumulate::run,
+    },
+    Group {
+        name: "matches_accumulate",
+        about: "normal equations of matches against a model",
+        run: matches_accumulate::run,
+    },
+    Group {
+        name: "matches_linearize",
+        about: "residuals and derivatives of matches against a model",
+        run: matches_linearize::run,
+    },
+    Group {
+        name: "lists",
+        about: "lists of accumulating calls on one Hessian against a book",
+        run: lists::run,
     },
 ];
 
@@ -147,7 +167,7 @@ fn usage() -> String {
     let mut text = format!(
         "usage: oracle [GROUP ...] [--count N] [--seed N]\n\n\
          Compares the proved library with plain Rust: the groups that are named, or all.\n\n\
-         --count N   about so many cases a group, a frame counting as one (default {DEFAULT_COUNT}); the fixed ones always run\n\
+         --count N   about so many cases a group, a frame or match counting as one (default {DEFAULT_COUNT}); the fixed ones always run\n\
          --seed N    the seed of the random cases (default {DEFAULT_SEED})\n\n\
          Exit status: 0 no mismatch, 1 a mismatch, 2 bad usage.\n\ngroups:"
     );

@@ -3,9 +3,12 @@
 use crate::called::Fault;
 use crate::draws::{self, fill, numbers, old, record_of, within, Pose, Wall, COUNTS};
 use crate::generator::Generator;
-use crate::model::frames::centred;
+use crate::model::frames::{centred, fit, Sets};
 use crate::model::moments::{transformed, Moments};
-use crate::model::{matrix, vector, Matrix, Vector, ACTIONS, DOF, EMPTY_LIST, LENGTH, MAX_DOF};
+use crate::model::{
+    matrix, stored_matrix, vector, Matrix, Vector, ACTIONS, DOF, EMPTY_LIST, LENGTH, MAX_DOF,
+};
+use crate::patterns;
 use maghnelt::{ACTION, CENTRED, DECOMPOSITION, MAX_FRAMES};
 
 /// Frames, a fixed set and actions, as the calls after the build take them.
@@ -236,6 +239,11 @@ pub fn bad_sigma(generator: &mut Generator) -> f64 {
     generator.pick(&bad)
 }
 
+/// An infinity or a NaN.
+pub fn not_finite(generator: &mut Generator) -> f64 {
+    generator.pick(&[f64::NAN, f64::INFINITY, f64::NEG_INFINITY])
+}
+
 /// The eigenvalues of a symmetric matrix and their vectors, by Jacobi's rotations: decompositions as a host makes them.
 pub fn jacobi(mut m: Matrix<3>) -> (Vector, [Vector; 3]) {
     let mut vectors: [Vector; 3] = matrix(|r, c| f64::from(u8::from(r == c)));
@@ -270,11 +278,94 @@ pub fn decomposition_of(m: Matrix<3>) -> [f64; DECOMPOSITION] {
     decomposition
 }
 
+/// A decomposition of the fit's scatter as a host makes it, or one that is made up, or the first with other eigenvalues.
+pub fn fit_decomposition(scene: &Scene, generator: &mut Generator) -> [f64; DECOMPOSITION] {
+    let mut decomposition = match generator.below(8) {
+        0 => numbers(generator),
+        _ => {
+            let sets = Sets::read(&scene.frames, &scene.fixed, &scene.actions);
+            decomposition_of(fit(&sets).1)
+        }
+    };
+    if generator.below(3) == 0 {
+        decomposition[..3].copy_from_slice(&made_up_eigenvalues(generator));
+    }
+    decomposition
+}
+
+/// A decomposition of a set's scatter, or one that is made up.
+pub fn set_decomposition(record: &[f64], generator: &mut Generator) -> [f64; DECOMPOSITION] {
+    let mut decomposition = match generator.below(4) {
+        0 => numbers(generator),
+        _ => decomposition_of(stored_matrix(&record[4..])),
+    };
+    if generator.below(4) == 0 {
+        let eigenvalues = [-0.0, -1.0, f64::NAN, -f64::NAN, f64::INFINITY, 5e-324, 4.0];
+        let place = generator.below(3) as usize;
+        decomposition[place] = generator.pick(&eigenvalues);
+    }
+    decomposition
+}
+
+/// Eigenvalues in any order: about the least gap apart beside any third one, equal, or special.
+fn made_up_eigenvalues(generator: &mut Generator) -> [f64; 3] {
+    let special = patterns::special();
+    let any = |generator: &mut Generator| f64::from_bits(generator.pick(&special));
+    let third = match generator.below(4) {
+        0 => any(generator),
+        1 => within(-2.0, 2.0, generator),
+        2 => generator.pick(&[1.0, -1.0, 0.0, 200.0, 1e9, f64::INFINITY, f64::NAN]),
+        _ => f64::from_bits(patterns::random(generator)),
+    };
+    let least = match generator.below(3) {
+        0 => generator.pick(&[0.0, -0.0]),
+        1 => any(generator),
+        _ => third - within(0.0, 4.0, generator),
+    };
+    let gap = 1e-14 * third.abs().max(1.0);
+    let second = match generator.below(4) {
+        0 => least,
+        1 => any(generator),
+        _ => f64::from_bits(
+            (least + gap)
+                .to_bits()
+                .wrapping_add_signed(generator.between(-2, 2)),
+        ),
+    };
+    let mut eigenvalues = [least, second, third];
+    eigenvalues.rotate_left(generator.below(3) as usize);
+    if generator.below(2) == 0 {
+        eigenvalues.swap(0, 1);
+    }
+    eigenvalues
+}
+
+/// Every three of the patterns at which an order or a gap turns.
+pub fn turning_eigenvalues() -> impl Iterator<Item = [f64; 3]> {
+    const PATTERNS: [u64; 14] = [
+        0x0000_0000_0000_0000,
+        0x8000_0000_0000_0000,
+        0x3D06_849B_86A1_2B9B, // 1e-14, which is not above the least gap
+        0x3D06_849B_86A1_2B9C,
+        0x3D81_9799_812D_EA11, // 200 times that
+        0xBD06_849B_86A1_2B9B,
+        0x3FF0_0000_0000_0000,
+        0x4069_0000_0000_0000, // 200
+        0x7FF0_0000_0000_0000,
+        0xFFF0_0000_0000_0000,
+        0x7FF8_0000_0000_0000,
+        0x7FF0_0000_0000_0001,
+        0xFFF8_0000_0000_0000,
+        0xFFFF_FFFF_FFFF_FFFF,
+    ];
+    let three = |k: usize| [k % 14, k / 14 % 14, k / 196];
+    (0..14 * 14 * 14).map(move |k| three(k).map(|place| f64::from_bits(PATTERNS[place])))
+}
+
 #[cfg(test)]
 mod tests {
     use super::*;
     use crate::model::dot;
-    use crate::model::frames::{fit, Sets};
 
     #[test]
     fn a_wall_that_is_seen_from_poses_is_flat() {

@@ -1,5 +1,6 @@
 // The functions that hosts link: the C interface of include/maghnelt.h, each a call of the crate below it.
 ghost use mathlib.Core.Path.{_≡_};
+ghost use lib.ListN.{length};
 ghost use Rattle.square_root.specs.Computed.{squareRoot};
 ghost use Rattle.total_order.specs.Key.{keyOf};
 ghost use Rattle.refusals.specs.Refusal.{Answered};
@@ -10,6 +11,10 @@ ghost use Rattle.normal_blocks.specs.Calls.{remapRefusal};
 ghost use Rattle.plane_fit.specs.Fit.{fitList};
 ghost use Rattle.plane_fit.specs.Calls.{fitRefusal};
 ghost use Rattle.plane_moments.specs.Build.{Builds};
+ghost use Rattle.plane_moments.specs.Accumulate.{framesCall, work};
+ghost use Rattle.call_lists.specs.Accumulated.{Accumulated};
+ghost use Rattle.map_planes.specs.Accumulate.{matchesCall};
+ghost use Rattle.map_planes.specs.Linearize.{Linearized};
 
 // IEEE 754's squareRoot.
 #[no_mangle]
@@ -167,4 +172,64 @@ pub extern "C" fn maghnelt_frames_fit(
     ensures { λ r. ⌜ Answered (fitRefusal dof (now (frames .entry)) (now (fixed .entry)) (now (actions .entry)) (now (out .entry))) r (now (out .entry)) (now (out .exit)) (fitList (now (frames .entry)) (now (fixed .entry)) (now (actions .entry))) ⌝ }
 {
     plane_fit::fit(dof, frames, fixed, actions, out)
+}
+
+// The cost of the frames and the fixed set under the fitted plane, and each mapped frame's block and vector added to the normal equations.
+#[no_mangle]
+pub extern "C" fn maghnelt_frames_accumulate(
+    dof: u32,
+    frames: &[f64],
+    fixed: &[f64],
+    sigma: f64,
+    actions: &[f64],
+    decomposition: &[u64],
+    map: &[u32],
+    hessian: &mut [f64],
+    gradient: &mut [f64],
+    cost: &mut f64,
+) -> u32
+    ensures { λ r. ⌜ Accumulated (framesCall (length (now (hessian .entry))) (length (now (gradient .entry))) (work dof (now (frames .entry)) (now (fixed .entry)) sigma (now (actions .entry)) (now (decomposition .entry)) (now (map .entry)))) (now (hessian .entry)) (now (gradient .entry)) (now (cost .entry)) r (now (hessian .exit)) (now (gradient .exit)) (now (cost .exit)) ⌝ }
+{
+    plane_moments::accumulate::accumulate(
+        dof,
+        frames,
+        fixed,
+        sigma,
+        actions,
+        decomposition,
+        map,
+        hessian,
+        gradient,
+        cost,
+    )
+}
+
+// The cost of a match list, and its block and vector added to the normal equations.
+#[no_mangle]
+pub extern "C" fn maghnelt_matches_accumulate(
+    dof: u32,
+    matches: &[f64],
+    action: &[f64],
+    map: &[u32],
+    hessian: &mut [f64],
+    gradient: &mut [f64],
+    cost: &mut f64,
+) -> u32
+    ensures { λ r. ⌜ Accumulated (matchesCall (length (now (hessian .entry))) (length (now (gradient .entry))) (record { dof = dof; matches = now (matches .entry); action = now (action .entry); map = now (map .entry) })) (now (hessian .entry)) (now (gradient .entry)) (now (cost .entry)) r (now (hessian .exit)) (now (gradient .exit)) (now (cost .exit)) ⌝ }
+{
+    map_planes::accumulate(dof, matches, action, map, hessian, gradient, cost)
+}
+
+// The residual of each match, and their Jacobian by columns.
+#[no_mangle]
+pub extern "C" fn maghnelt_matches_linearize(
+    dof: u32,
+    matches: &[f64],
+    action: &[f64],
+    residual: &mut [f64],
+    jacobian: &mut [f64],
+) -> u32
+    ensures { λ r. ⌜ Linearized dof (now (matches .entry)) (now (action .entry)) r (now (residual .entry)) (now (jacobian .entry)) (now (residual .exit)) (now (jacobian .exit)) ⌝ }
+{
+    map_planes::linearize(dof, matches, action, residual, jacobian)
 }

@@ -107,4 +107,50 @@ extern "C" {
         out: *mut f64,
         out_length: usize,
     ) -> u32;
+
+    pub(crate) fn maghnelt_frames_accumulate(
+        dof: u32,
+        frames: *const f64,
+        frames_length: usize,
+        fixed: *const f64,
+        fixed_length: usize,
+        sigma: f64,
+        actions: *const f64,
+        actions_length: usize,
+        decomposition: *const f64,
+        decomposition_length: usize,
+        map: *const u32,
+        map_length: usize,
+        hessian: *mut f64,
+        hessian_length: usize,
+        gradient: *mut f64,
+        gradient_length: usize,
+        cost: *mut f64,
+    ) -> u32;
+
+    pub(crate) fn maghnelt_matches_accumulate(
+        dof: u32,
+        matches: *const f64,
+        matches_length: usize,
+        action: *const f64,
+        action_length: usize,
+        map: *const u32,
+        map_length: usize,
+        hessian: *mut f64,
+        hessian_length: usize,
+        gradient: *mut f64,
+        gradient_length: usize,
+        cost: *mut f64,
+    ) -> u32;
+    pub(crate) fn maghnelt_matches_linearize(
+        dof: u32,
+        matches: *const f64,
+        matches_length: usize,
+        action: *const f64,
+        action_length: usize,
+        residual: *mut f64,
+        residual_length: usize,
+        jacobian: *mut f64,
+        jacobian_length: usize,
+    ) -> u32;
 }

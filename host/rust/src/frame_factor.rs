@@ -1,6 +1,9 @@
 //! The factor of one plane over several frames.
 
-use crate::{frames_fit, slices, Action, Centred, FitSums, Moments, Refusal, CENTRED, MOMENTS};
+use crate::{
+    frames_fit, slices, Action, BlockMap, Centred, Decomposition, FitSums, Moments,
+    NormalEquations, Refusal, CENTRED, MOMENTS,
+};
 
 /// One plane over several frames: the moments that each frame saw of it, tested and centred once, and evaluated at many
 /// states of the frames. A fixed set of points that lie in the site already may anchor it.
@@ -8,7 +11,7 @@ use crate::{frames_fit, slices, Action, Centred, FitSums, Moments, Refusal, CENT
 /// # Examples
 ///
 /// ```
-/// use maghnelt::{Action, FrameFactor, Moments};
+/// use maghnelt::{Action, BlockMap, Decomposition, FrameFactor, Moments, NormalEquations};
 ///
 /// # fn main() -> Result<(), maghnelt::Refusal> {
 /// let corners = [[0.0, 0.0, 0.0], [2.0, 0.0, 0.0], [0.0, 2.0, 0.0], [2.0, 2.0, 0.0]];
@@ -20,7 +23,21 @@ use crate::{frames_fit, slices, Action, Centred, FitSums, Moments, Refusal, CENT
 /// // The second frame stands two metres further.
 /// let upright = [[1.0, 0.0, 0.0], [0.0, 1.0, 0.0], [0.0, 0.0, 1.0]];
 /// let states = [[0.0; 3], [2.0, 0.0, 0.0]].map(|shift| Action::rigid(&upright, &shift));
-/// assert_eq!(factor.fit(&states)?.mean, [2.0, 1.0, 0.0]);
+/// let sums = factor.fit(&states)?;
+/// assert_eq!(sums.mean, [2.0, 1.0, 0.0]);
+///
+/// // The decomposition of the scatter is the host's, from nalgebra's `SymmetricEigen`, say.
+/// assert_eq!(sums.scatter, [[16.0, 0.0, 0.0], [0.0, 8.0, 0.0], [0.0, 0.0, 0.0]]);
+/// let decomposition = Decomposition { eigenvalues: [16.0, 8.0, 0.0], vectors: upright };
+///
+/// // Six rows for each frame.
+/// let map = BlockMap::new([Some(0), Some(6)])?;
+/// let mut normal = NormalEquations::zeros(12);
+/// let cost = factor.accumulate(&states, &decomposition, &map, &mut normal)?;
+/// assert_eq!(cost, 0.0);
+/// // Four points, each pulling straight down with the weight 1 / 0.01².
+/// assert_eq!(normal.hessian(2, 2), 4.0 / (0.01 * 0.01));
+/// assert_eq!(normal.gradient(), [0.0; 12]);
 /// # Ok(())
 /// # }
 /// ```
@@ -102,6 +119,51 @@ impl FrameFactor {
     /// [`Refusal::ACTIONS`] if they are not as many as the frames.
     pub fn fit(&self, actions: &[Action]) -> Result<FitSums, Refusal> {
         frames_fit(self.dof, &self.frames, self.fixed.as_ref(), actions)
+    }
+
+    /// Adds the normal equations of the frames, carried by these actions, to the segments that the map gives them, and gives
+    /// the cost: the squared distances of all points from the fitted plane over sigma squared. `decomposition` is that of
+    /// what [`fit`](FrameFactor::fit) gave for the same actions. A frame that is not mapped still costs.
+    ///
+    /// Without a plane, as where the two least eigenvalues are equal, the cost is 0 and nothing is added.
+    ///
+    /// # Errors
+    ///
+    /// [`Refusal::LENGTH`] for an order above [`MAX_ORDER`](crate::MAX_ORDER); [`Refusal::ACTIONS`] if the actions are not as
+    /// many as the frames; [`Refusal::SEGMENT`] if a frame's offset plus the dof exceeds the order. The normal equations are
+    /// then as they were.
+    pub fn accumulate(
+        &self,
+        actions: &[Action],
+        decomposition: &Decomposition,
+        map: &BlockMap,
+        normal: &mut NormalEquations,
+    ) -> Result<f64, Refusal> {
+        let mut cost = 0.0;
+        let (hessian, gradient) = normal.parts_mut();
+        slices::frames_accumulate(
+            self.dof,
+            Centred::flattened(&self.frames),
+            Centred::optional(self.fixed.as_ref()),
+            self.sigma,
+            Action::flattened(actions),
+            &decomposition.record(),
+            map.words(),
+            hessian,
+            gradient,
+            &mut cost,
+        )?;
+        Ok(cost)
+    }
+
+    /// The cost alone.
+    ///
+    /// # Errors
+    ///
+    /// [`Refusal::ACTIONS`] if the actions are not as many as the frames.
+    pub fn cost(&self, actions: &[Action], decomposition: &Decomposition) -> Result<f64, Refusal> {
+        let mut none = NormalEquations::zeros(0);
+        self.accumulate(actions, decomposition, &BlockMap::NOT_WANTED, &mut none)
     }
 
     /// The number of the parameters of each frame's state.

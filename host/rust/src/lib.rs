@@ -14,6 +14,8 @@
 //! | [`BlockMap`], [`BlockMap::remapped`] | where the frames of a factor go in the Hessian |
 //! | [`FrameFactor`] | one plane over several frames, built once and then evaluated at many states |
 //! | [`frames_fit`] | the mean and the scatter that a plane is fitted to over several frames |
+//! | [`MatchList`] | matches of points with planes on one pose: cost, normal equations, residuals |
+//! | [`NormalEquations`] | the Hessian and the gradient that factors add to |
 //! | [`sqrt`] | the correctly rounded square root, IEEE 754's squareRoot |
 //! | [`total_order_key`] | an integer that orders bit patterns as IEEE 754's totalOrder |
 //!
@@ -45,7 +47,10 @@ mod block_map;
 mod ffi;
 mod frame_factor;
 mod frames;
+mod linearized;
+mod matches;
 mod moments;
+mod normal_equations;
 mod plane;
 mod refusal;
 mod sizes;
@@ -56,11 +61,15 @@ mod total_order;
 pub use block_map::{BlockMap, UNMAPPED};
 pub use frame_factor::FrameFactor;
 pub use frames::{frames_fit, Action, Centred, FitSums};
+pub use linearized::Linearized;
+pub use matches::{MatchList, PlaneMatch};
 pub use moments::{Decomposition, FittedPlane, MeanAndScatter, Moments};
+pub use normal_equations::NormalEquations;
 pub use plane::{point_to_plane_sigma, Plane};
 pub use refusal::Refusal;
 pub use sizes::{
-    ACTION, CENTRED, DECOMPOSITION, MATCH, MAX_FRAMES, MAX_POINTS, MAX_WORDS, MOMENTS, PLANE,
+    ACTION, CENTRED, DECOMPOSITION, MATCH, MAX_FRAMES, MAX_MATCHES, MAX_ORDER, MAX_POINTS,
+    MAX_WORDS, MOMENTS, PLANE,
 };
 pub use square_root::sqrt;
 pub use total_order::total_order_key;

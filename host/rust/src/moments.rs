@@ -1,6 +1,6 @@
 //! Moments of a set of points: count, sum and summed outer products.
 
-use crate::{slices, Plane, Refusal, MOMENTS};
+use crate::{slices, Plane, Refusal, DECOMPOSITION, MOMENTS};
 
 /// The places of the record; no other code here knows them.
 const COUNT: usize = 0;
@@ -59,6 +59,17 @@ pub struct Decomposition {
     pub eigenvalues: [f64; 3],
     /// Their vectors: `vectors[k]` belongs to `eigenvalues[k]`.
     pub vectors: [[f64; 3]; 3],
+}
+
+impl Decomposition {
+    /// The numbers as they are handed to the library.
+    #[inline]
+    #[must_use]
+    pub fn record(&self) -> [f64; DECOMPOSITION] {
+        let [[a, b, c], [d, e, f], [g, h, i]] = self.vectors;
+        let [x, y, z] = self.eigenvalues;
+        [x, y, z, a, b, c, d, e, f, g, h, i]
+    }
 }
 
 /// What [`Moments::plane`] finds.
@@ -232,11 +243,9 @@ impl Moments {
     #[inline]
     #[must_use]
     pub fn plane(&self, decomposition: &Decomposition) -> Option<FittedPlane> {
-        let [first, second, third] = decomposition.vectors;
-        let handed_in = [decomposition.eigenvalues, first, second, third];
         let mut out = [0.0; 7];
         let mut found = 0;
-        slices::moments_plane(&self.0, handed_in.as_flattened(), &mut out, &mut found)
+        slices::moments_plane(&self.0, &decomposition.record(), &mut out, &mut found)
             .expect("the types give each slice its length");
         let [x, y, z, offset, eigenvalues @ ..] = out;
         let normal = [x, y, z];

@@ -19,3 +19,7 @@ pub const MAX_POINTS: usize = 65_536;
 pub const MAX_FRAMES: usize = 256;
 /// The most words of a block map or of an index list.
 pub const MAX_WORDS: usize = 1024;
+/// The most rows of a Hessian.
+pub const MAX_ORDER: usize = 1024;
+/// The most matches of one call.
+pub const MAX_MATCHES: usize = 65_536;

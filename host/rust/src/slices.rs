@@ -296,3 +296,121 @@ pub fn frames_fit(
         )
     })
 }
+
+/// Fits the plane by the decomposition of what [`frames_fit`] gave, adds the frames' normal equations to `hessian`, column
+/// after column, and `gradient`, at the offsets that `map` gives, and writes their cost. Without a plane the cost is 0 and
+/// nothing else is written. Where nothing but the cost is wanted, `map`, `hessian` and `gradient` are empty.
+///
+/// # Errors
+///
+/// [`Refusal::DOF`]; [`Refusal::EMPTY_LIST`]; [`Refusal::LENGTH`]: as in [`frames_fit`], or `decomposition` has not
+/// [`DECOMPOSITION`](crate::DECOMPOSITION) numbers, `map` more than [`MAX_WORDS`](crate::MAX_WORDS) words, `gradient` more
+/// than [`MAX_ORDER`](crate::MAX_ORDER) numbers, or `hessian` not its square; then [`Refusal::SIGMA`],
+/// [`Refusal::ACTIONS`], [`Refusal::MAP_WORD`] and [`Refusal::SEGMENT`].
+#[allow(clippy::too_many_arguments)]
+#[inline]
+pub fn frames_accumulate(
+    dof: u32,
+    frames: &[f64],
+    fixed: &[f64],
+    sigma: f64,
+    actions: &[f64],
+    decomposition: &[f64],
+    map: &[u32],
+    hessian: &mut [f64],
+    gradient: &mut [f64],
+    cost: &mut f64,
+) -> Result<(), Refusal> {
+    // SAFETY: as said at the head of this file.
+    Refusal::of_answer(unsafe {
+        ffi::maghnelt_frames_accumulate(
+            dof,
+            frames.as_ptr(),
+            frames.len(),
+            fixed.as_ptr(),
+            fixed.len(),
+            sigma,
+            actions.as_ptr(),
+            actions.len(),
+            decomposition.as_ptr(),
+            decomposition.len(),
+            map.as_ptr(),
+            map.len(),
+            hessian.as_mut_ptr(),
+            hessian.len(),
+            gradient.as_mut_ptr(),
+            gradient.len(),
+            cost,
+        )
+    })
+}
+
+/// Adds the normal equations of a list of matches to `hessian`, column after column, and `gradient`, at the offset that word
+/// 0 of `map` gives, and writes their cost. Where nothing but the cost is wanted, `map`, `hessian` and `gradient` are empty.
+///
+/// # Errors
+///
+/// [`Refusal::DOF`]; [`Refusal::EMPTY_LIST`]: there is no match; [`Refusal::LENGTH`]: `matches` is not whole records of
+/// [`MATCH`](crate::MATCH) numbers or more than [`MAX_MATCHES`](crate::MAX_MATCHES), `map` has more than
+/// [`MAX_WORDS`](crate::MAX_WORDS) words, `gradient` more than [`MAX_ORDER`](crate::MAX_ORDER) numbers, or `hessian` not its
+/// square; then of the first bad match [`Refusal::NOT_FINITE`] or [`Refusal::SIGMA`]; [`Refusal::ACTIONS`]: `action` has not
+/// [`ACTION`](crate::ACTION) numbers; then [`Refusal::MAP_WORD`] and [`Refusal::SEGMENT`].
+#[inline]
+pub fn matches_accumulate(
+    dof: u32,
+    matches: &[f64],
+    action: &[f64],
+    map: &[u32],
+    hessian: &mut [f64],
+    gradient: &mut [f64],
+    cost: &mut f64,
+) -> Result<(), Refusal> {
+    // SAFETY: as said at the head of this file.
+    Refusal::of_answer(unsafe {
+        ffi::maghnelt_matches_accumulate(
+            dof,
+            matches.as_ptr(),
+            matches.len(),
+            action.as_ptr(),
+            action.len(),
+            map.as_ptr(),
+            map.len(),
+            hessian.as_mut_ptr(),
+            hessian.len(),
+            gradient.as_mut_ptr(),
+            gradient.len(),
+            cost,
+        )
+    })
+}
+
+/// Writes the residual of each match and, if `jacobian` is not empty, its derivatives: a row for each match and `dof`
+/// columns, column after column.
+///
+/// # Errors
+///
+/// As [`matches_accumulate`] up to [`Refusal::ACTIONS`]; [`Refusal::LENGTH`] also if `residual` has not a number for each
+/// match, or `jacobian` neither none nor `dof` for each.
+#[inline]
+pub fn matches_linearize(
+    dof: u32,
+    matches: &[f64],
+    action: &[f64],
+    residual: &mut [f64],
+    jacobian: &mut [f64],
+) -> Result<(), Refusal> {
+    // SAFETY: as said at the head of this file.
+    Refusal::of_answer(unsafe {
+        ffi::maghnelt_matches_linearize(
+            dof,
+            matches.as_ptr(),
+            matches.len(),
+            action.as_ptr(),
+            action.len(),
+            residual.as_mut_ptr(),
+            residual.len(),
+            jacobian.as_mut_ptr(),
+            jacobian.len(),
+        )
+    })
+}

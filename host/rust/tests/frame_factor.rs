@@ -1,6 +1,11 @@
 //! The factor of one plane over several frames, on numbers whose answers are known.
 
-use maghnelt::{FrameFactor, Moments, Refusal, MAX_FRAMES};
+use maghnelt::{
+    Action, BlockMap, Decomposition, FrameFactor, Moments, NormalEquations, Refusal, ACTION,
+    MAX_FRAMES,
+};
+
+const UNIT: [[f64; 3]; 3] = [[1.0, 0.0, 0.0], [0.0, 1.0, 0.0], [0.0, 0.0, 1.0]];
 
 /// Moments of that count, the points being at the origin.
 fn at_origin(count: f64) -> Moments {
@@ -108,4 +113,134 @@ fn a_fixed_set_is_tested_also_where_it_will_be_dropped() {
         built(&[at_origin(5.0)], Some(&minus_infinity)),
         Err(Refusal::TOTAL_COUNT)
     );
+}
+
+/// The corners of a square about (1, 1, 0).
+fn square() -> Moments {
+    let corners = [
+        [0.0, 0.0, 0.0],
+        [2.0, 0.0, 0.0],
+        [0.0, 2.0, 0.0],
+        [2.0, 2.0, 0.0],
+    ];
+    Moments::from_points(&corners).unwrap()
+}
+
+/// One parameter, which moves a point along x by three and its own x.
+fn stretching() -> Action {
+    let mut numbers = [0.0; ACTION];
+    for place in [0, 4, 8, 39] {
+        numbers[place] = 1.0;
+    }
+    numbers[12] = 3.0;
+    Action::from(numbers)
+}
+
+fn with_values(eigenvalues: [f64; 3]) -> Decomposition {
+    Decomposition {
+        eigenvalues,
+        vectors: UNIT,
+    }
+}
+
+fn at(offsets: &[u32]) -> BlockMap {
+    BlockMap::new(offsets.iter().copied().map(Some)).unwrap()
+}
+
+/// The case in whole numbers: the plane x = 1 through a square that lies across it.
+#[test]
+fn a_case_in_whole_numbers() {
+    let factor = FrameFactor::new(1, &[square()], None, 0.5).unwrap();
+    let fit = with_values([0.0, 1.0, 2.0]);
+    let mut normal = NormalEquations::zeros(2);
+    normal.parts_mut().0.fill(1.0);
+    let cost = factor.accumulate(&[stretching()], &fit, &at(&[1]), &mut normal);
+    assert_eq!(cost, Ok(16.0));
+    assert_eq!(normal.columns(), [1.0, 1.0, 1.0, 273.0]);
+    assert_eq!(normal.gradient(), [0.0, 16.0]);
+    assert_eq!(factor.cost(&[stretching()], &fit), Ok(16.0));
+}
+
+#[test]
+fn the_weight_is_one_over_sigma_squared() {
+    // The square across the plane x = 1 has a scatter of 4 along x; with sigma 0.1 the weight is below 100.
+    let cost = |sigma: f64| {
+        FrameFactor::new(1, &[square()], None, sigma)
+            .unwrap()
+            .cost(&[stretching()], &with_values([0.0, 1.0, 2.0]))
+    };
+    assert_eq!(cost(0.1), Ok(4.0 * 99.99999999999999));
+    assert_eq!(cost(2.0), Ok(1.0));
+}
+
+#[test]
+fn a_fixed_set_only_costs() {
+    let factor = FrameFactor::new(1, &[square()], Some(&square()), 0.5).unwrap();
+    let fit = with_values([0.0, 1.0, 2.0]);
+    let mut normal = NormalEquations::zeros(1);
+    let cost = factor.accumulate(&[stretching()], &fit, &at(&[0]), &mut normal);
+    assert_eq!(cost, Ok(32.0));
+    assert_eq!(normal.columns(), [272.0]);
+}
+
+#[test]
+fn frames_may_share_rows_or_go_nowhere() {
+    let factor = FrameFactor::new(1, &[square(); 3], None, 0.5).unwrap();
+    let states = [stretching(); 3];
+    let fit = with_values([0.0, 1.0, 2.0]);
+    let mut normal = NormalEquations::zeros(1);
+    let map = BlockMap::new([Some(0), None, Some(0)]).unwrap();
+    assert_eq!(
+        factor.accumulate(&states, &fit, &map, &mut normal),
+        Ok(48.0)
+    );
+    assert_eq!(normal.columns(), [544.0]);
+    assert_eq!(normal.gradient(), [32.0]);
+    // A map that ends early.
+    assert_eq!(
+        factor.accumulate(&states, &fit, &at(&[0]), &mut normal),
+        Ok(48.0)
+    );
+    assert_eq!(normal.columns(), [816.0]);
+}
+
+#[test]
+fn without_a_plane_nothing_is_added() {
+    let factor = FrameFactor::new(1, &[square()], None, 0.5).unwrap();
+    let mut normal = NormalEquations::zeros(1);
+    normal.parts_mut().0[0] = -0.0;
+    // f and g, and a gap that is a NaN.
+    for eigenvalues in [
+        [0.0, 1e-12, 200.0],
+        [-0.0, 0.0, 1.0],
+        [1.0, 1.0, 1.0],
+        [f64::INFINITY; 3],
+    ] {
+        let fit = with_values(eigenvalues);
+        let cost = factor.accumulate(&[stretching()], &fit, &at(&[0]), &mut normal);
+        assert_eq!(cost.map(f64::to_bits), Ok(0));
+        assert_eq!(normal.columns()[0].to_bits(), (-0.0f64).to_bits());
+        // A segment that does not fit is refused all the same.
+        let refused = factor.accumulate(&[stretching()], &fit, &at(&[1]), &mut normal);
+        assert_eq!(refused, Err(Refusal::SEGMENT));
+    }
+}
+
+#[test]
+fn calls_that_are_refused() {
+    let factor = FrameFactor::new(6, &[square(); 2], None, 0.5).unwrap();
+    let fit = with_values([0.0, 1.0, 2.0]);
+    let states = [stretching(); 3];
+    let mut normal = NormalEquations::zeros(6);
+    let before = normal.clone();
+    let mut accumulate =
+        |states: &[Action], map: &BlockMap| factor.accumulate(states, &fit, map, &mut normal);
+    assert_eq!(accumulate(&states, &at(&[1])), Err(Refusal::ACTIONS));
+    assert_eq!(
+        accumulate(&states[..2], &at(&[0, 1])),
+        Err(Refusal::SEGMENT)
+    );
+    // The third word is no frame's.
+    assert!(accumulate(&states[..2], &at(&[0, 0, 1])).is_ok());
+    assert_ne!(normal, before);
 }

@@ -27,6 +27,8 @@ fn sizes_are_those_of_the_header() {
             ("PLANE", maghnelt::PLANE),
             ("MAX_FRAMES", maghnelt::MAX_FRAMES),
             ("MAX_WORDS", maghnelt::MAX_WORDS),
+            ("MAX_ORDER", maghnelt::MAX_ORDER),
+            ("MAX_MATCHES", maghnelt::MAX_MATCHES),
         ]
     );
 }

@@ -1,8 +1,8 @@
 //! Slices of wrong lengths are refused, and everything that was lent is as it was, bit for bit.
 
 use maghnelt::{
-    slices, Refusal, ACTION, CENTRED, DECOMPOSITION, MAX_FRAMES, MAX_POINTS, MAX_WORDS, MOMENTS,
-    PLANE, UNMAPPED,
+    slices, Refusal, ACTION, CENTRED, DECOMPOSITION, MATCH, MAX_FRAMES, MAX_ORDER, MAX_POINTS,
+    MAX_WORDS, MOMENTS, PLANE, UNMAPPED,
 };
 
 /// Signalling and quiet NaNs with payloads, and numbers: what a write would hardly leave in place.
@@ -277,4 +277,162 @@ fn fit() {
     }
     assert_eq!(fit(9, two, &mut patterns(12)), Ok(()));
     assert_eq!(fit(0, [CENTRED, 0, ACTION], &mut patterns(12)), Ok(()));
+}
+
+#[test]
+fn matches() {
+    let ones = vec![1.0; 4 * ACTION];
+    // dof 2, lengths of matches and action, words, order by the gradient's and the Hessian's length.
+    let accumulate = |dof: u32, lengths: [usize; 2], map: &[u32], [n, nn]: [usize; 2]| {
+        let (mut hessian, mut gradient, mut cost) = (patterns(nn), patterns(n), patterns(1)[0]);
+        let [of_matches, of_action] = lengths;
+        let answer = slices::matches_accumulate(
+            dof,
+            &ones[..of_matches],
+            &ones[..of_action],
+            map,
+            &mut hessian,
+            &mut gradient,
+            &mut cost,
+        );
+        if answer.is_err() {
+            assert_eq!(bits(&hessian), bits(&patterns(nn)));
+            assert_eq!(bits(&gradient), bits(&patterns(n)));
+            assert_eq!(cost.to_bits(), patterns(1)[0].to_bits());
+        }
+        answer
+    };
+    let right = [2 * MATCH, ACTION];
+    assert_eq!(accumulate(2, right, &[1], [3, 9]), Ok(()));
+    assert_eq!(accumulate(2, right, &[UNMAPPED], [0, 0]), Ok(()));
+    // Words past the first are looked at, but go nowhere.
+    assert_eq!(accumulate(2, right, &[1, 7], [3, 9]), Ok(()));
+    let long = vec![UNMAPPED + 1; MAX_WORDS + 1];
+    let bad = [UNMAPPED, UNMAPPED + 1];
+    for (dof, lengths, map, target, reason) in [
+        (10, [0, 0], &long[..], [1, 0], Refusal::DOF),
+        (2, [0, 0], &long, [1, 0], Refusal::EMPTY_LIST),
+        (2, [MATCH - 1, 0], &bad, [3, 9], Refusal::LENGTH),
+        (2, [MATCH + 1, 0], &bad, [3, 9], Refusal::LENGTH),
+        (2, [MATCH, 0], &long, [3, 9], Refusal::LENGTH),
+        (2, [MATCH, 0], &bad, [3, 8], Refusal::LENGTH),
+        (2, [MATCH, 0], &bad, [3, 3], Refusal::LENGTH),
+        (2, [MATCH, 0], &bad, [0, 1], Refusal::LENGTH),
+        (2, [MATCH, 0], &bad, [3, 0], Refusal::LENGTH),
+        (2, [MATCH, ACTION - 1], &bad, [3, 9], Refusal::ACTIONS),
+        (2, [MATCH, 2 * ACTION], &bad, [3, 9], Refusal::ACTIONS),
+        (2, [MATCH, ACTION], &bad, [3, 9], Refusal::MAP_WORD),
+        (2, [MATCH, ACTION], &[2], [3, 9], Refusal::SEGMENT),
+        (2, [MATCH, ACTION], &[0], [0, 0], Refusal::SEGMENT),
+    ] {
+        assert_eq!(accumulate(dof, lengths, map, target), Err(reason));
+    }
+    let order = MAX_ORDER + 1;
+    assert_eq!(
+        accumulate(2, [MATCH, 0], &bad, [order, order * order]),
+        Err(Refusal::LENGTH)
+    );
+
+    let linearize = |dof: u32, lengths: [usize; 4]| {
+        let [of_matches, of_action, of_residual, of_jacobian] = lengths;
+        let (mut residual, mut jacobian) = (patterns(of_residual), patterns(of_jacobian));
+        let answer = slices::matches_linearize(
+            dof,
+            &ones[..of_matches],
+            &ones[..of_action],
+            &mut residual,
+            &mut jacobian,
+        );
+        if answer.is_err() {
+            assert_eq!(bits(&residual), bits(&patterns(of_residual)));
+            assert_eq!(bits(&jacobian), bits(&patterns(of_jacobian)));
+        }
+        answer
+    };
+    let right = [3 * MATCH, ACTION, 3, 6];
+    assert_eq!(linearize(2, right), Ok(()));
+    assert_eq!(linearize(2, [3 * MATCH, ACTION, 3, 0]), Ok(()));
+    for lengths in wrong(right) {
+        let [of_matches, of_action, of_residual, of_jacobian] = lengths;
+        let expected = match (of_matches, of_residual, of_jacobian) {
+            (0, _, _) => Refusal::EMPTY_LIST,
+            (24, 3, 0 | 6) if of_action != ACTION => Refusal::ACTIONS,
+            (24, 3, 0 | 6) => continue,
+            _ => Refusal::LENGTH,
+        };
+        assert_eq!(linearize(2, lengths), Err(expected), "{lengths:?}");
+        assert_eq!(linearize(10, lengths), Err(Refusal::DOF));
+    }
+}
+
+#[test]
+fn accumulated_frames() {
+    let ones = vec![1.0; (MAX_FRAMES + 1) * ACTION];
+    let call = |dof: u32, sigma: f64, lengths: [usize; 4], map: &[u32], [n, nn]: [usize; 2]| {
+        let (mut hessian, mut gradient, mut cost) = (patterns(nn), patterns(n), patterns(1)[0]);
+        let [frames, fixed, actions, decomposition] = lengths;
+        let answer = slices::frames_accumulate(
+            dof,
+            &ones[..frames],
+            &ones[..fixed],
+            sigma,
+            &ones[..actions],
+            // Without a plane.
+            &ones[..decomposition],
+            map,
+            &mut hessian,
+            &mut gradient,
+            &mut cost,
+        );
+        // Neither a refused call nor one without a plane adds anything.
+        assert_eq!(bits(&hessian), bits(&patterns(nn)));
+        assert_eq!(bits(&gradient), bits(&patterns(n)));
+        match answer {
+            Ok(()) => assert_eq!(cost.to_bits(), 0),
+            Err(_) => assert_eq!(cost.to_bits(), patterns(1)[0].to_bits()),
+        }
+        answer
+    };
+    let right = [2 * CENTRED, CENTRED, 2 * ACTION, DECOMPOSITION];
+    assert_eq!(call(2, 1.0, right, &[1, 0], [3, 9]), Ok(()));
+    assert_eq!(call(2, 1.0, right, &[], [0, 0]), Ok(()));
+    let [long, bad] = [
+        vec![UNMAPPED + 1; MAX_WORDS + 1],
+        vec![UNMAPPED, UNMAPPED, UNMAPPED + 1],
+    ];
+    // Each reason with those after it.
+    assert_eq!(call(10, 0.0, [0; 4], &long, [1, 0]), Err(Refusal::DOF));
+    assert_eq!(
+        call(2, 0.0, [0; 4], &long, [1, 0]),
+        Err(Refusal::EMPTY_LIST)
+    );
+    for lengths in [
+        [CENTRED + 1, 0, 0, DECOMPOSITION],
+        [
+            CENTRED * (MAX_FRAMES + 1),
+            0,
+            ACTION * (MAX_FRAMES + 1),
+            DECOMPOSITION,
+        ],
+        [CENTRED, 1, 0, DECOMPOSITION],
+        [CENTRED, 2 * CENTRED, 0, DECOMPOSITION],
+        [CENTRED, 0, 0, 0],
+        [CENTRED, 0, 0, DECOMPOSITION - 1],
+        [CENTRED, 0, 0, 2 * DECOMPOSITION],
+    ] {
+        assert_eq!(call(2, 0.0, lengths, &bad, [3, 9]), Err(Refusal::LENGTH));
+    }
+    let one = [CENTRED, 0, 0, DECOMPOSITION];
+    for target in [[3, 8], [3, 10], [3, 0], [0, 1]] {
+        assert_eq!(call(2, 0.0, one, &bad, target), Err(Refusal::LENGTH));
+    }
+    assert_eq!(call(2, 0.0, one, &long, [3, 9]), Err(Refusal::LENGTH));
+    assert_eq!(call(2, 0.0, one, &bad, [3, 9]), Err(Refusal::SIGMA));
+    for actions in [0, 1, ACTION, 3 * ACTION] {
+        let lengths = [2 * CENTRED, 0, actions, DECOMPOSITION];
+        assert_eq!(call(2, 1.0, lengths, &bad, [3, 9]), Err(Refusal::ACTIONS));
+    }
+    assert_eq!(call(2, 1.0, right, &bad, [3, 9]), Err(Refusal::MAP_WORD));
+    assert_eq!(call(2, 1.0, right, &[0, 2], [3, 9]), Err(Refusal::SEGMENT));
+    assert_eq!(call(2, 1.0, right, &[0], [0, 0]), Err(Refusal::SEGMENT));
 }

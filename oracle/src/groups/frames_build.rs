@@ -8,7 +8,7 @@ use crate::model::{
     frames as model, DOF, EMPTY_LIST, FRAME_COUNT, LENGTH, MAX_DOF, NOT_FINITE, SIGMA, TOTAL_COUNT,
 };
 use crate::report::Report;
-use crate::scenes::{bad_sigma, seen_from, some_frames, some_sigma};
+use crate::scenes::{bad_sigma, not_finite, seen_from, some_frames, some_sigma};
 use maghnelt::{slices as library, CENTRED, MAX_FRAMES, MOMENTS};
 
 /// What a call takes, and its outputs.
@@ -239,7 +239,7 @@ fn faults() -> Vec<Fault<Case>> {
             }
         }),
         Fault::new(NOT_FINITE, |case: &mut Case, generator| {
-            let bad = generator.pick(&[f64::NAN, f64::INFINITY, f64::NEG_INFINITY]);
+            let bad = not_finite(generator);
             let frames = case.frames.len() / MOMENTS;
             // Not a count, which may be refused for its sign.
             if frames > 0 {

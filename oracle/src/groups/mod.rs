@@ -3,8 +3,12 @@
 //! A group's `run` compares the library. Its `compare` takes the functions to compare, so that the group's tests can
 //! show which wrong functions it finds.
 
+pub mod frames_accumulate;
 pub mod frames_build;
 pub mod frames_fit;
+pub mod lists;
+pub mod matches_accumulate;
+pub mod matches_linearize;
 pub mod moments;
 pub mod moments_plane;
 pub mod number;

@@ -1,11 +1,8 @@
 //! The model of block maps, and of what is added to a Hessian and a gradient through them.
 
 use super::{first, written, LENGTH, MAP_WORD};
-use maghnelt::{MAX_WORDS, UNMAPPED};
+use maghnelt::{MAX_ORDER, MAX_WORDS, UNMAPPED};
 use std::ops::Range;
-
-/// The largest order of a Hessian.
-pub const MAX_ORDER: usize = 1024;
 
 /// What a word of a map or of an index list says, by its top two bits.
 #[derive(Clone, Copy, Debug, PartialEq)]

@@ -6,10 +6,7 @@ use super::{
     bad_sigma, dot, first, stored_vector, sum_from_zero, vector, written, Vector, ACTIONS, DOF,
     EMPTY_LIST, LENGTH, MAP_WORD, MAX_DOF, NOT_FINITE, SEGMENT, SIGMA,
 };
-use maghnelt::{ACTION, MATCH};
-
-/// The most matches of a call.
-pub const MAX_MATCHES: usize = 65_536;
+use maghnelt::{ACTION, MATCH, MAX_MATCHES};
 
 /// Matches of one group.
 pub const GROUP: usize = 512;

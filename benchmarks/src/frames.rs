@@ -1,0 +1,303 @@
+//! The calls on frames of a plane, against plain Rust on plain arrays of the same layout in which the compiler knows the width;
+//! and against the same with nine columns whatever the width, which is what the original works out.
+
+use crate::harness::measure;
+use crate::planes::Plane;
+use maghnelt::{slices, ACTION, CENTRED, DECOMPOSITION, MAX_ORDER};
+use oracle::generator::Generator;
+use std::hint::black_box;
+
+/// Frames that a batch goes through, in as many planes as that makes.
+const FRAMES: usize = 256;
+const SIGMA: f64 = 0.05;
+
+/// Prints the rows of the frames.
+pub fn measure_all() {
+    let mut generator = Generator::named(754, "frames");
+    for frames in [8, 32, 256] {
+        let number = (FRAMES / frames).max(1);
+        let planes: Vec<Plane> = (0..number)
+            .map(|_| Plane::random(frames, &mut generator))
+            .collect();
+        measure_accumulate::<3>(&planes);
+        measure_accumulate::<6>(&planes);
+        measure_accumulate::<7>(&planes);
+        measure_accumulate::<9>(&planes);
+        measure_cost(&planes);
+    }
+}
+
+fn of(planes: &[Plane]) -> String {
+    format!("{} frames", planes[0].frames.len())
+}
+
+/// A Hessian, a gradient and a cost.
+#[derive(Clone, Debug, PartialEq)]
+struct Normal {
+    hessian: Vec<f64>,
+    gradient: Vec<f64>,
+    cost: f64,
+}
+
+fn measure_accumulate<const WIDTH: usize>(planes: &[Plane]) {
+    // Each frame has rows of its own as far as they go, and then those of an earlier one.
+    let frames = planes[0].frames.len();
+    let own = frames.min(MAX_ORDER / WIDTH);
+    let map: Vec<u32> = (0..frames).map(|k| (k % own * WIDTH) as u32).collect();
+    let order = own * WIDTH;
+    let zeros = Normal {
+        hessian: vec![0.0; order * order],
+        gradient: vec![0.0; order],
+        cost: 0.0,
+    };
+    let library = |normal: &mut Normal| {
+        for plane in black_box(planes) {
+            _ = slices::frames_accumulate(
+                WIDTH as u32,
+                plane.frames.as_flattened(),
+                &plane.fixed,
+                SIGMA,
+                plane.actions.as_flattened(),
+                &plane.decompositions[0],
+                &map,
+                &mut normal.hessian,
+                &mut normal.gradient,
+                &mut normal.cost,
+            );
+        }
+    };
+    fn rust<const WIDTH: usize, const WORKED_OUT: usize>(
+        planes: &[Plane],
+        map: &[u32],
+        normal: &mut Normal,
+    ) {
+        for plane in black_box(planes) {
+            normal.cost = plain::accumulate::<WIDTH, WORKED_OUT>(
+                &plane.frames,
+                Some(&plane.fixed),
+                SIGMA,
+                &plane.actions,
+                &plane.decompositions[0],
+                Some((map, &mut normal.hessian, &mut normal.gradient)),
+            );
+        }
+    }
+    let [mut by_library, mut by_rust, mut by_nine] = [(); 3].map(|()| zeros.clone());
+    library(&mut by_library);
+    rust::<WIDTH, WIDTH>(planes, &map, &mut by_rust);
+    rust::<WIDTH, 9>(planes, &map, &mut by_nine);
+    assert_eq!(by_library, by_rust);
+    assert_eq!(by_library, by_nine);
+    let case = format!("{}, dof {WIDTH}", of(planes));
+    measure(
+        "frames_accumulate",
+        &case,
+        planes.len(),
+        || library(&mut by_library),
+        || rust::<WIDTH, WIDTH>(planes, &map, &mut by_rust),
+    );
+    if WIDTH < 9 {
+        measure(
+            "frames_accumulate",
+            &format!("{case}, Rust of nine columns"),
+            planes.len(),
+            || library(&mut by_library),
+            || rust::<WIDTH, 9>(planes, &map, &mut by_nine),
+        );
+    }
+}
+
+fn measure_cost(planes: &[Plane]) {
+    let library = || {
+        let mut cost = 0.0;
+        for plane in black_box(planes) {
+            _ = slices::frames_accumulate(
+                6,
+                plane.frames.as_flattened(),
+                &plane.fixed,
+                SIGMA,
+                plane.actions.as_flattened(),
+                &plane.decompositions[0],
+                &[],
+                &mut [],
+                &mut [],
+                &mut cost,
+            );
+        }
+        black_box(cost)
+    };
+    let rust = || {
+        let mut cost = 0.0;
+        for plane in black_box(planes) {
+            cost = plain::accumulate::<6, 6>(
+                &plane.frames,
+                Some(&plane.fixed),
+                SIGMA,
+                &plane.actions,
+                &plane.decompositions[0],
+                None,
+            );
+        }
+        black_box(cost)
+    };
+    assert_eq!(library(), rust());
+    measure(
+        "frames_accumulate",
+        &format!("{}, cost only", of(planes)),
+        planes.len(),
+        || _ = library(),
+        || _ = rust(),
+    );
+}
+
+/// The same in plain Rust: the compiler inlines all below the outermost functions, which are called as the library's are.
+mod plain {
+    use super::{ACTION, CENTRED, DECOMPOSITION};
+
+    type Frame = [f64; CENTRED];
+    type Action = [f64; ACTION];
+    type Decomposition = [f64; DECOMPOSITION];
+
+    /// Where mean and scatter are in a frame, after the count.
+    const MEAN: usize = 1;
+    const SCATTER: usize = 4;
+
+    #[inline(always)]
+    fn dot(a: [f64; 3], b: [f64; 3]) -> f64 {
+        a[0] * b[0] + a[1] * b[1] + a[2] * b[2]
+    }
+
+    #[inline(always)]
+    fn three(numbers: &[f64], from: usize) -> [f64; 3] {
+        [numbers[from], numbers[from + 1], numbers[from + 2]]
+    }
+
+    /// A·mean + b.
+    #[inline(always)]
+    fn centre(a: &Action, frame: &Frame) -> [f64; 3] {
+        let [x, y, z] = three(frame, MEAN);
+        std::array::from_fn(|r| a[r] * x + a[3 + r] * y + a[6 + r] * z + a[9 + r])
+    }
+
+    /// A symmetric or any other matrix by columns times a vector.
+    #[inline(always)]
+    fn times(m: &[f64], v: [f64; 3]) -> [f64; 3] {
+        std::array::from_fn(|r| m[r] * v[0] + m[3 + r] * v[1] + m[6 + r] * v[2])
+    }
+
+    /// The plane: normal and offset.
+    #[inline(always)]
+    fn fit(
+        frames: &[Frame],
+        fixed: Option<&Frame>,
+        actions: &[Action],
+        decomposition: &Decomposition,
+    ) -> Option<([f64; 3], f64)> {
+        let mut total = 0.0;
+        let mut weighted = [0.0; 3];
+        let mut weigh = |centre: [f64; 3], count: f64| {
+            total += count;
+            for r in 0..3 {
+                weighted[r] += centre[r] * count;
+            }
+        };
+        for (frame, action) in frames.iter().zip(actions) {
+            weigh(centre(action, frame), frame[0]);
+        }
+        if let Some(fixed) = fixed {
+            weigh(three(fixed, MEAN), fixed[0]);
+        }
+        let mean = weighted.map(|sum| sum / total);
+        let mut order = [0, 1, 2];
+        order.sort_by(|&a: &usize, &b: &usize| decomposition[a].total_cmp(&decomposition[b]));
+        let gap = decomposition[order[1]] - decomposition[order[0]];
+        let normal = three(decomposition, 3 + 3 * order[0]);
+        (gap > 1e-14 * decomposition[order[2]].abs().max(1.0)).then(|| (normal, -dot(normal, mean)))
+    }
+
+    /// The derivatives of Aᵀn and of the mean's distance.
+    #[inline(always)]
+    fn derivatives<const W: usize>(
+        a: &Action,
+        n: [f64; 3],
+        mean: [f64; 3],
+    ) -> ([[f64; W]; 3], [f64; W]) {
+        let along = |from: usize| dot(n, three(a, from));
+        let d: [[f64; W]; 3] =
+            std::array::from_fn(|k| std::array::from_fn(|c| along(39 + 27 * k + 3 * c)));
+        let m = std::array::from_fn(|c| {
+            along(12 + 3 * c) + d[0][c] * mean[0] + d[1][c] * mean[1] + d[2][c] * mean[2]
+        });
+        (d, m)
+    }
+
+    /// With blocks of so many worked out columns, of which the first are added.
+    #[inline(never)]
+    pub fn accumulate<const WIDTH: usize, const WORKED_OUT: usize>(
+        frames: &[Frame],
+        fixed: Option<&Frame>,
+        sigma: f64,
+        actions: &[Action],
+        decomposition: &Decomposition,
+        mut wanted: Option<(&[u32], &mut Vec<f64>, &mut Vec<f64>)>,
+    ) -> f64 {
+        let Some((n, offset)) = fit(frames, fixed, actions, decomposition) else {
+            return 0.0;
+        };
+        let weight = 1.0 / (sigma * sigma);
+        let mut cost = 0.0;
+        for (k, (frame, a)) in frames.iter().zip(actions).enumerate() {
+            let count = frame[0];
+            let s = &frame[SCATTER..];
+            let a_n = std::array::from_fn(|c| dot(three(a, 3 * c), n));
+            let s_an = times(s, a_n);
+            let along = dot(n, centre(a, frame)) + offset;
+            cost += (dot(a_n, s_an) + count * along * along) * weight;
+            if let Some((map, hessian, gradient)) = &mut wanted {
+                let order = gradient.len();
+                let at = map[k] as usize;
+                let (d, m) = derivatives::<WORKED_OUT>(a, n, three(frame, MEAN));
+                let p: [[f64; WORKED_OUT]; 3] = std::array::from_fn(|k| {
+                    std::array::from_fn(|i| {
+                        d[0][i] * s[3 * k] + d[1][i] * s[3 * k + 1] + d[2][i] * s[3 * k + 2]
+                    })
+                });
+                let entry = |i: usize, j: usize| {
+                    let spread = p[0][i] * d[0][j] + p[1][i] * d[1][j] + p[2][i] * d[2][j];
+                    (spread + m[i] * m[j] * count) * weight
+                };
+                let column = |j: usize| (at + j) * order + at..(at + j) * order + at + WIDTH;
+                if WORKED_OUT == WIDTH {
+                    for j in 0..WIDTH {
+                        for (i, cell) in hessian[column(j)].iter_mut().enumerate() {
+                            *cell += entry(i, j);
+                        }
+                    }
+                } else {
+                    // A whole block, of which the first rows and columns are added.
+                    let mut h = [[0.0; WORKED_OUT]; WORKED_OUT];
+                    for j in 0..WORKED_OUT {
+                        for i in 0..WORKED_OUT {
+                            h[j][i] = entry(i, j);
+                        }
+                    }
+                    for j in 0..WIDTH {
+                        for (i, cell) in hessian[column(j)].iter_mut().enumerate() {
+                            *cell += h[j][i];
+                        }
+                    }
+                }
+                for (i, cell) in gradient[at..at + WIDTH].iter_mut().enumerate() {
+                    let spread = d[0][i] * s_an[0] + d[1][i] * s_an[1] + d[2][i] * s_an[2];
+                    *cell += (spread + m[i] * (count * along)) * weight;
+                }
+            }
+        }
+        if let Some(fixed) = fixed {
+            let along = dot(n, three(fixed, MEAN)) + offset;
+            let spread = dot(n, times(&fixed[SCATTER..], n));
+            cost += (spread + fixed[0] * along * along) * weight;
+        }
+        cost
+    }
+}

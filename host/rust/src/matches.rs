@@ -1,0 +1,132 @@
+//! Matches of points with planes of a map on one pose.
+
+use crate::{slices, Action, BlockMap, Linearized, NormalEquations, Plane, Refusal, MATCH};
+
+/// A point as the scanner saw it, the plane of the map that it is held against, and the standard deviation of its distance.
+#[derive(Clone, Copy, Debug, PartialEq)]
+pub struct PlaneMatch {
+    /// The point.
+    pub point: [f64; 3],
+    /// The plane, taken as it comes.
+    pub plane: Plane,
+    /// The standard deviation of the point's distance from the plane.
+    pub sigma: f64,
+}
+
+impl PlaneMatch {
+    /// The record as it is handed to the library.
+    #[inline]
+    #[must_use]
+    pub fn record(&self) -> [f64; MATCH] {
+        let [x, y, z] = self.point;
+        let [a, b, c] = self.plane.normal;
+        [x, y, z, a, b, c, self.plane.offset, self.sigma]
+    }
+}
+
+/// Matches of points that one pose carries into the site.
+///
+/// # Examples
+///
+/// ```
+/// use maghnelt::{Action, BlockMap, MatchList, NormalEquations, Plane, PlaneMatch};
+///
+/// # fn main() -> Result<(), maghnelt::Refusal> {
+/// let floor = Plane { normal: [0.0, 0.0, 1.0], offset: 0.0 };
+/// let seen = |point| PlaneMatch { point, plane: floor, sigma: 0.5 };
+/// let matches = MatchList::new(6, [seen([0.0, 0.0, 1.0]), seen([4.0, 0.0, -1.0])]);
+///
+/// // The pose stands a metre too high, so that the residuals are 4 and 0.
+/// let upright = [[1.0, 0.0, 0.0], [0.0, 1.0, 0.0], [0.0, 0.0, 1.0]];
+/// let pose = Action::rigid(&upright, &[0.0, 0.0, 1.0]);
+/// assert_eq!(matches.linearize(&pose)?.residual(), [4.0, 0.0]);
+/// assert_eq!(matches.cost(&pose)?, 16.0);
+///
+/// let mut normal = NormalEquations::zeros(6);
+/// let cost = matches.accumulate(&pose, &BlockMap::new([Some(0)])?, &mut normal)?;
+/// assert_eq!(cost, 16.0);
+/// // Both residuals grow by 2 with each metre up, and the second falls by 8 for a turn about y.
+/// assert_eq!(normal.hessian(2, 2), 8.0);
+/// assert_eq!(normal.hessian(4, 4), 64.0);
+/// assert_eq!(normal.gradient(), [0.0, 0.0, 8.0, 0.0, 0.0, 0.0]);
+/// # Ok(())
+/// # }
+/// ```
+#[derive(Clone, Debug, PartialEq)]
+pub struct MatchList {
+    dof: u32,
+    records: Vec<[f64; MATCH]>,
+}
+
+impl MatchList {
+    /// A list of matches on a pose of `dof` parameters. Nothing is tested here: every call tests the whole list.
+    pub fn new(dof: u32, matches: impl IntoIterator<Item = PlaneMatch>) -> MatchList {
+        let records = matches.into_iter().map(|one| one.record()).collect();
+        MatchList { dof, records }
+    }
+
+    /// The number of matches.
+    #[must_use]
+    pub fn len(&self) -> usize {
+        self.records.len()
+    }
+
+    /// Whether there are none.
+    #[must_use]
+    pub fn is_empty(&self) -> bool {
+        self.records.is_empty()
+    }
+
+    /// Adds the normal equations of the matches under a pose, at the offset that the map gives for its frame 0, and gives
+    /// the cost. A list that is not mapped still costs.
+    ///
+    /// # Errors
+    ///
+    /// [`Refusal::DOF`] above 9; [`Refusal::EMPTY_LIST`]; [`Refusal::LENGTH`] with more than
+    /// [`MAX_MATCHES`](crate::MAX_MATCHES) or an order above [`MAX_ORDER`](crate::MAX_ORDER); [`Refusal::NOT_FINITE`] or
+    /// [`Refusal::SIGMA`] by the first match whose point is not finite or whose sigma is not finite and positive;
+    /// [`Refusal::SEGMENT`] if the offset plus the dof exceeds the order. The normal equations are then as they were.
+    pub fn accumulate(
+        &self,
+        pose: &Action,
+        map: &BlockMap,
+        normal: &mut NormalEquations,
+    ) -> Result<f64, Refusal> {
+        let mut cost = 0.0;
+        let (hessian, gradient) = normal.parts_mut();
+        slices::matches_accumulate(
+            self.dof,
+            self.records.as_flattened(),
+            pose.as_array(),
+            map.words(),
+            hessian,
+            gradient,
+            &mut cost,
+        )?;
+        Ok(cost)
+    }
+
+    /// The cost of the matches under a pose: the sum of the squared residuals, in groups of 512.
+    ///
+    /// # Errors
+    ///
+    /// As [`accumulate`](MatchList::accumulate), but for what is said of an order and an offset.
+    pub fn cost(&self, pose: &Action) -> Result<f64, Refusal> {
+        let mut none = NormalEquations::zeros(0);
+        self.accumulate(pose, &BlockMap::NOT_WANTED, &mut none)
+    }
+
+    /// The residual of each match under a pose, and the Jacobian.
+    ///
+    /// # Errors
+    ///
+    /// As [`cost`](MatchList::cost).
+    pub fn linearize(&self, pose: &Action) -> Result<Linearized, Refusal> {
+        let columns = self.dof.min(9) as usize;
+        let mut out = Linearized::zeros(self.len(), columns);
+        let (residual, jacobian) = out.parts_mut();
+        let matches = self.records.as_flattened();
+        slices::matches_linearize(self.dof, matches, pose.as_array(), residual, jacobian)?;
+        Ok(out)
+    }
+}
