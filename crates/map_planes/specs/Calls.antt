@@ -12,13 +12,11 @@ use Rattle.refusals.specs.Refusal.{Reason, _when_, firstOf}
 use Rattle.terms.specs.Terms.{upto}
 use Rattle.derivative.specs.Action.{actionSize}
 use Rattle.map_plane.specs.Match.{MATCH, matchAt, matchReasons}
+use Rattle.map_plane.specs.Linearize.{mostDof}
 use Rattle.match_sums.specs.Groups.{matchCount}
 use Rattle.map_planes.specs.Reasons.{Numbered, first-append, parts-numbered, orElse, neither, not-first, suc-no}
 
--- the most columns of an action, and the most matches of a list
-abbrev pub mostDof : ℕ
-mostDof = 9
-
+-- the most matches of a list
 abbrev pub mostMatches : ℕ
 mostMatches = 65536
 

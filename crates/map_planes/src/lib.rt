@@ -19,11 +19,10 @@ ghost use Rattle.map_planes.specs.Calls.{badMatches, listReasons, matche
 ghost use Rattle.map_planes.specs.Accumulate.{matchesCall};
 ghost use Rattle.map_planes.specs.Linearize.{badOutputs, residuals, Linearized, Placed};
 use map_plane::MATCH;
+use map_plane::MOST_DOF;
 use normal_blocks::Place;
 
-// The most columns of an action, and the most matches of a list.
-pub const MOST_DOF: u32 = 9;
-
+// The most matches of a list.
 pub const MOST_MATCHES: usize = 65536;
 
 // How many numbers an action is.
