@@ -21,11 +21,43 @@
 
 namespace maghnelt {
 
-// Why a call was turned away: `reason()` is the number in docs of the C header.
+// Why a call was turned away, by the reason's number.
+inline const char *reason_text(std::uint32_t reason) noexcept {
+    switch (reason) {
+    case 1:
+        return "the dof is above 9";
+    case 2:
+        return "the frame list or match list is empty";
+    case 3:
+        return "a slice other than the actions has not the length its counts call for, or a limit is passed";
+    case 4:
+        return "some frame's count is at or below 0";
+    case 5:
+        return "the frames' counts summed in order, plus the fixed count, are below 3";
+    case 6:
+        return "a moment of a frame or the fixed set, or a coordinate of a point, is not finite";
+    case 7:
+        return "sigma is not finite and positive";
+    case 8:
+        return "the actions are not 120 numbers for each frame (one action, for a match list)";
+    case 9:
+        return "a map word has a bad kind or a bad low part";
+    case 10:
+        return "a mapped frame's offset plus dof exceeds the order n of the Hessian";
+    case 11:
+        return "a plane's normal has a norm that is not finite or not above 1e-12";
+    case 12:
+        return "the point-to-plane variance is not finite and positive";
+    default:
+        return "one that this version of the header does not know";
+    }
+}
+
+// A call that was turned away. It has written nothing.
 class Refused : public std::runtime_error {
   public:
     explicit Refused(std::uint32_t reason)
-        : std::runtime_error("maghnelt: refused by reason " + std::to_string(reason)), number(reason) {}
+        : std::runtime_error("reason " + std::to_string(reason) + ": " + reason_text(reason)), number(reason) {}
     std::uint32_t reason() const noexcept { return number; }
 
   private:
@@ -266,6 +298,74 @@ inline MeanAndScatter frames_fit(std::uint32_t dof, const CentredList &frames, c
     detail::accept(
         maghnelt_frames_fit(dof, MAGHNELT_LENT(frames), MAGHNELT_LENT(fixed), MAGHNELT_LENT(actions), MAGHNELT_LENT(out)));
     return {out.col(0), out.rightCols<3>()};
+}
+
+// A residual a row, and its derivatives by the parameters of the states.
+struct Rows {
+    Eigen::VectorXd residual;
+    Eigen::MatrixXd jacobian;
+};
+
+// A plane over several frames, built once of the frames' own moments; each later call takes the frames' actions.
+class FrameFactor {
+  public:
+    // Frames and fixed set are moments; a fixed set is one column, or none.
+    FrameFactor(std::uint32_t dof, const MomentsList &frames, const MomentsList &fixed, double sigma)
+        : width(dof), noise(sigma), own(MAGHNELT_CENTRED, frames.cols()), known(MAGHNELT_CENTRED, fixed.cols()) {
+        std::uint32_t dropped = 0;
+        detail::accept(maghnelt_frames_build(dof, MAGHNELT_LENT(frames), MAGHNELT_LENT(fixed), sigma, MAGHNELT_LENT(own),
+                                             MAGHNELT_LENT(known), &total, &dropped));
+        if (dropped != 0) {
+            known.resize(MAGHNELT_CENTRED, 0);
+        }
+    }
+
+    // All points, free and fixed.
+    double points() const { return total; }
+    // The frames, and the fixed set if it was kept.
+    const CentredList &frames() const { return own; }
+    const CentredList &fixed() const { return known; }
+
+    MeanAndScatter fit(const Actions &actions) const { return frames_fit(width, own, known, actions); }
+
+    // Adds the plane's blocks to the Hessian and the gradient, and returns its cost.
+    double accumulate(const Actions &actions, const Decomposition &fitted, const BlockMap &map, Eigen::MatrixXd &hessian,
+                      Eigen::VectorXd &gradient) const {
+        double cost = 0.0;
+        detail::accept(maghnelt_frames_accumulate(width, MAGHNELT_LENT(own), MAGHNELT_LENT(known), noise, MAGHNELT_LENT(actions),
+                                                  MAGHNELT_LENT(fitted.record()), MAGHNELT_LENT(map.words()), MAGHNELT_LENT(hessian),
+                                                  MAGHNELT_LENT(gradient), &cost));
+        return cost;
+    }
+
+  private:
+    std::uint32_t width;
+    double noise;
+    CentredList own;
+    CentredList known;
+    double total = 0.0;
+};
+
+// ---- matches on one pose ----
+
+// A match a column: point (3), normal (3), offset, sigma.
+using Matches = Eigen::Matrix<double, MAGHNELT_MATCH, Eigen::Dynamic>;
+
+// Adds the matches' block to the Hessian and the gradient, at the place that word 0 of the map names, and returns the cost.
+inline double matches_accumulate(std::uint32_t dof, const Matches &matches, const Action &action, const BlockMap &map,
+                                 Eigen::MatrixXd &hessian, Eigen::VectorXd &gradient) {
+    double cost = 0.0;
+    detail::accept(maghnelt_matches_accumulate(dof, MAGHNELT_LENT(matches), MAGHNELT_LENT(action.record()), MAGHNELT_LENT(map.words()),
+                                               MAGHNELT_LENT(hessian), MAGHNELT_LENT(gradient), &cost));
+    return cost;
+}
+
+// A residual a match, and its dof derivatives.
+inline Rows matches_linearize(std::uint32_t dof, const Matches &matches, const Action &action) {
+    Rows rows{Eigen::VectorXd(matches.cols()), Eigen::MatrixXd(matches.cols(), static_cast<Eigen::Index>(dof))};
+    detail::accept(maghnelt_matches_linearize(dof, MAGHNELT_LENT(matches), MAGHNELT_LENT(action.record()),
+                                              MAGHNELT_LENT(rows.residual), MAGHNELT_LENT(rows.jacobian)));
+    return rows;
 }
 
 #undef MAGHNELT_LENT

@@ -1,0 +1,268 @@
+//! Gauss-Newton over the plane factors: the poses are moved until the walls are as thin as they get.
+
+use crate::job::{moments, Job};
+use crate::lapack;
+use crate::pose::{Pose, Vector, DOF};
+use maghnelt::{BlockMap, FrameFactor, Moments, NormalEquations, Refusal};
+use std::fmt;
+
+/// The most steps that are taken.
+const MOST_STEPS: usize = 60;
+/// The cost has settled when a step changes it by less than this part.
+const SETTLED: f64 = 1e-6;
+/// A pose is held by what it sees if the stiffness of its softest direction is above this part of the stiffest's.
+const LEAST_STIFFNESS: f64 = 1e-5;
+
+/// One surface as the adjustment has it.
+#[derive(Clone, Debug)]
+pub struct PlaneFactor {
+    /// The surface's number in the job.
+    pub surface: usize,
+    /// The poses that saw it.
+    pub poses: Vec<usize>,
+    /// What each of them saw, as it saw it.
+    pub own: Vec<Moments>,
+    /// The library's factor of it.
+    pub factor: FrameFactor,
+    /// Where the rows of each pose begin in the Hessian.
+    pub map: BlockMap,
+}
+
+/// A job as the adjustment has it.
+#[derive(Clone, Debug)]
+pub struct Adjustment {
+    /// The planes.
+    pub planes: Vec<PlaneFactor>,
+    /// The points in them.
+    pub points: f64,
+    /// The surfaces that say nothing about the poses: each was seen from one place only.
+    pub unused: Vec<usize>,
+    /// Where the rows of each pose of the job begin.
+    map: BlockMap,
+    rows: usize,
+    /// Whether points that are known say where the site is.
+    anchored: bool,
+    sigma: f64,
+}
+
+/// How things stand after some steps.
+#[derive(Clone, Copy, Debug, PartialEq)]
+pub struct Progress {
+    /// The squared distances of all points from their planes, in units of sigma.
+    pub cost: f64,
+    /// The root of the mean squared distance, in metres.
+    pub thickness: f64,
+    /// How far off the worst pose is, in metres and in radians, where the truth is known.
+    pub worst: Option<(f64, f64)>,
+}
+
+/// Why there is no adjustment.
+#[derive(Clone, Debug, PartialEq)]
+pub enum Failure {
+    /// The library refused what a surface has.
+    Refused {
+        /// The surface's name.
+        surface: String,
+        /// Why.
+        refusal: Refusal,
+    },
+    /// LAPACK found no eigenvalues for a surface.
+    NoDecomposition {
+        /// The surface's name.
+        surface: String,
+    },
+    /// No two poses saw the same surface.
+    NothingShared,
+    /// A pose could slide or turn without a surface to notice.
+    Loose {
+        /// The number of the pose, from 1.
+        pose: usize,
+    },
+}
+
+impl fmt::Display for Failure {
+    fn fmt(&self, f: &mut fmt::Formatter<'_>) -> fmt::Result {
+        match self {
+            Failure::Refused { surface, refusal } => write!(f, "surface {surface:?}: {refusal}"),
+            Failure::NoDecomposition { surface } => {
+                write!(f, "surface {surface:?}: its scatter has no eigenvalues")
+            }
+            Failure::NothingShared => {
+                f.write_str("no surface was seen twice, so nothing ties the poses together")
+            }
+            Failure::Loose { pose } => write!(
+                f,
+                "pose {pose} is not held by the surfaces it saw: a floor and two walls that meet are needed"
+            ),
+        }
+    }
+}
+
+impl std::error::Error for Failure {}
+
+impl Adjustment {
+    /// Takes the moments of what each pose saw of each surface, and builds the factors.
+    ///
+    /// # Errors
+    ///
+    /// If no surface was seen twice, or the library refuses one.
+    pub fn new(job: &Job) -> Result<Adjustment, Failure> {
+        let poses = job.stations.len();
+        let offsets = (0..poses).map(|pose| Some((pose * DOF) as u32));
+        let mut adjustment = Adjustment {
+            planes: Vec::new(),
+            points: 0.0,
+            unused: Vec::new(),
+            map: BlockMap::new(offsets).expect("a job has few poses"),
+            rows: poses * DOF,
+            anchored: job.points().1 > 0,
+            sigma: job.sigma,
+        };
+        for (surface, frames) in job.seen().into_iter().enumerate() {
+            let refused = |refusal| Failure::Refused {
+                surface: job.surfaces[surface].name.clone(),
+                refusal,
+            };
+            adjustment.add(job, surface, &frames).map_err(refused)?;
+        }
+        if adjustment.planes.is_empty() {
+            return Err(Failure::NothingShared);
+        }
+        Ok(adjustment)
+    }
+
+    fn add(
+        &mut self,
+        job: &Job,
+        surface: usize,
+        frames: &[(usize, Vec<Vector>)],
+    ) -> Result<(), Refusal> {
+        let poses: Vec<usize> = frames.iter().map(|(pose, _)| *pose).collect();
+        let own: Result<Vec<Moments>, Refusal> = frames.iter().map(|(_, p)| moments(p)).collect();
+        let own = own?;
+        let known = &job.surfaces[surface].fixed;
+        if poses.is_empty() || poses.len() + usize::from(!known.is_empty()) < 2 {
+            self.unused.push(surface);
+            return Ok(());
+        }
+        let fixed = moments(known)?;
+        let fixed = (!known.is_empty()).then_some(&fixed);
+        let factor = FrameFactor::new(DOF as u32, &own, fixed, self.sigma)?;
+        let list = BlockMap::new(poses.iter().map(|&pose| Some(pose as u32)))?;
+        self.points += factor.points();
+        self.planes.push(PlaneFactor {
+            surface,
+            map: self.map.remapped(&list),
+            poses,
+            own,
+            factor,
+        });
+        Ok(())
+    }
+
+    /// Moves the poses until the cost has settled, and says before the first step and after each how things stand.
+    ///
+    /// # Errors
+    ///
+    /// If a pose is not held by what it saw, or the library refuses a plane.
+    pub fn settle(
+        &self,
+        job: &Job,
+        mut say: impl FnMut(usize, &Progress),
+    ) -> Result<Vec<Pose>, Failure> {
+        let mut poses: Vec<Pose> = job.stations.iter().map(|s| s.pose).collect();
+        let mut before = f64::INFINITY;
+        for step in 0..=MOST_STEPS {
+            let (normal, cost) = self.normal_equations(job, &poses)?;
+            say(step, &self.progress(job, &poses, cost));
+            if before - cost <= SETTLED * cost {
+                break;
+            }
+            before = cost;
+            if let Some(loose) = self.loose(&normal) {
+                return Err(loose);
+            }
+            let right = normal.gradient().iter().map(|g| -g).collect();
+            let moves =
+                lapack::solve(normal.columns().to_vec(), right).expect("each block is stiff");
+            self.step(&mut poses, &moves);
+        }
+        Ok(poses)
+    }
+
+    /// Moves each pose by its part of a step.
+    fn step(&self, poses: &mut [Pose], moves: &[f64]) {
+        let first = poses[0];
+        for (pose, own) in poses.iter_mut().zip(moves.chunks_exact(DOF)) {
+            *pose = pose.moved(own.try_into().expect("as many as a pose has"));
+        }
+        // Without known points nothing says where the site is: all poses together go back to where the first one stood. To hold
+        // the first one during the step would be right too, but the others would close up to it only little by little.
+        if !self.anchored {
+            let back = first.after(&poses[0].inverse());
+            for pose in poses {
+                *pose = back.after(pose);
+            }
+        }
+    }
+
+    /// The normal equations and the cost at these poses: for each plane the fit's mean and scatter, LAPACK's decomposition of it,
+    /// and what the plane adds.
+    ///
+    /// # Errors
+    ///
+    /// If the library refuses a plane or LAPACK finds no eigenvalues.
+    pub fn normal_equations(
+        &self,
+        job: &Job,
+        poses: &[Pose],
+    ) -> Result<(NormalEquations, f64), Failure> {
+        let mut normal = NormalEquations::zeros(self.rows);
+        let mut cost = 0.0;
+        for plane in &self.planes {
+            let surface = || job.surfaces[plane.surface].name.clone();
+            let refused = |refusal| Failure::Refused {
+                surface: surface(),
+                refusal,
+            };
+            let actions: Vec<_> = plane.poses.iter().map(|&p| poses[p].action()).collect();
+            let sums = plane.factor.fit(&actions).map_err(refused)?;
+            let found = lapack::decomposition(&sums.scatter)
+                .ok_or_else(|| Failure::NoDecomposition { surface: surface() })?;
+            cost += plane
+                .factor
+                .accumulate(&actions, &found, &plane.map, &mut normal)
+                .map_err(refused)?;
+        }
+        Ok((normal, cost))
+    }
+
+    fn progress(&self, job: &Job, poses: &[Pose], cost: f64) -> Progress {
+        let mut worst: Option<(f64, f64)> = None;
+        for (station, pose) in job.stations.iter().zip(poses) {
+            if let Some(truth) = &station.truth {
+                let (metres, radians) = truth.distance(pose);
+                let (most, widest) = worst.unwrap_or_default();
+                worst = Some((most.max(metres), widest.max(radians)));
+            }
+        }
+        Progress {
+            cost,
+            thickness: self.sigma * (cost / self.points).sqrt(),
+            worst,
+        }
+    }
+
+    /// The first pose that is not held. A plane adds to the block of each pose alone, so that the blocks tell.
+    fn loose(&self, normal: &NormalEquations) -> Option<Failure> {
+        let is_loose = |offset: usize| {
+            let column = |c| (0..DOF).map(move |r| normal.hessian(offset + r, offset + c));
+            let block: Vec<f64> = (0..DOF).flat_map(column).collect();
+            let held =
+                |(values, _): (Vec<f64>, Vec<f64>)| values[0] > LEAST_STIFFNESS * values[DOF - 1];
+            !lapack::symmetric_eigen(DOF, block).is_some_and(held)
+        };
+        let loose = (0..self.rows).step_by(DOF).position(is_loose);
+        loose.map(|pose| Failure::Loose { pose: pose + 1 })
+    }
+}

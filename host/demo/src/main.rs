@@ -1,0 +1,243 @@
+//! What `./run` shows: a room scanned on a walk, its poses adjusted until the walls are thin, and the story of a wall.
+
+use maghnelt_demo::adjust::{Adjustment, Progress};
+use maghnelt_demo::job::Job;
+use maghnelt_demo::options::{Options, HELP};
+use maghnelt_demo::picture::Picture;
+use maghnelt_demo::pose::Pose;
+use maghnelt_demo::saves::{self, Story};
+use maghnelt_demo::{room, speed};
+use std::error::Error;
+use std::ffi::c_int;
+use std::fs;
+use std::io::Write as _;
+use std::process::ExitCode;
+use std::time::Instant;
+
+extern "C" {
+    fn signal(signal: c_int, handler: usize) -> usize;
+}
+
+/// A reader that has seen enough, as `head` has, ends the program without a word.
+fn end_with_the_reader() {
+    const SIGPIPE: c_int = 13;
+    const DEFAULT: usize = 0;
+    // SAFETY: the default action runs no code of this program.
+    unsafe { signal(SIGPIPE, DEFAULT) };
+}
+
+fn main() -> ExitCode {
+    end_with_the_reader();
+    let options = match Options::read(std::env::args().skip(1)) {
+        Ok(options) => options,
+        Err(what) => {
+            eprintln!("run: {what}");
+            return ExitCode::from(2);
+        }
+    };
+    if options.help {
+        print!("{HELP}");
+        return ExitCode::SUCCESS;
+    }
+    match run(&options) {
+        Ok(()) => ExitCode::SUCCESS,
+        Err(what) => {
+            eprintln!("run: {what}");
+            ExitCode::FAILURE
+        }
+    }
+}
+
+fn run(options: &Options) -> Result<(), Box<dyn Error>> {
+    let start = Instant::now();
+    let job = the_job(options)?;
+    if let Some(file) = &options.write_job {
+        write_file(file, &job.write())?;
+        println!("{} poses written to {file}", job.stations.len());
+        return Ok(());
+    }
+    let (seen, known) = job.points();
+    println!(
+        "{} poses saw {seen} points on {} surfaces; {known} more are known in the site.",
+        job.stations.len(),
+        job.surfaces.len()
+    );
+    let adjustment = Adjustment::new(&job)?;
+    show_factors(&job, &adjustment);
+    let wall = wall(options, &job, &adjustment)?;
+    let (adjusted, steps) = settle(&job, &adjustment)?;
+    let odometry: Vec<Pose> = job.stations.iter().map(|s| s.pose).collect();
+    let plane = &adjustment.planes[wall];
+    let name = &job.surfaces[plane.surface].name;
+    let story = saves::story(plane, &odometry, &adjusted)?
+        .ok_or_else(|| format!("the points of {name:?} lie in no plane"))?;
+    show_story(name, &story);
+
+    let file = options.picture.as_deref().unwrap_or("room.svg");
+    let picture = Picture {
+        job: &job,
+        walls: if options.job.is_none() {
+            &room::WALLS
+        } else {
+            &[]
+        },
+        adjusted: &adjusted,
+        steps: &steps,
+        wall: plane.surface,
+        story: &story,
+    };
+    write_file(file, &picture.svg())?;
+    println!();
+    println!("The picture is in {file}.");
+    show_speed(options.seed)?;
+    println!("Done in {:.1} s.", start.elapsed().as_secs_f64());
+    Ok(())
+}
+
+fn the_job(options: &Options) -> Result<Job, Box<dyn Error>> {
+    let Some(file) = &options.job else {
+        println!(
+            "A room of seed {}: walls, a floor and an alcove, scanned on a walk with {:.0} mm of noise.",
+            options.seed,
+            1000.0 * room::NOISE
+        );
+        return Ok(room::job(options.seed, options.poses));
+    };
+    let text = fs::read_to_string(file).map_err(|why| format!("{file} can't be read: {why}"))?;
+    Ok(Job::read(&text).map_err(|why| format!("{file}: {why}"))?)
+}
+
+fn write_file(file: &str, text: &str) -> Result<(), String> {
+    fs::write(file, text).map_err(|why| format!("{file} can't be written: {why}"))
+}
+
+fn show_factors(job: &Job, adjustment: &Adjustment) {
+    let frames: usize = adjustment
+        .planes
+        .iter()
+        .map(|p| p.factor.frames().len())
+        .sum();
+    println!(
+        "{} planes with {frames} frames: each frame's moments stand for its points from here on.",
+        adjustment.planes.len()
+    );
+    let names = adjustment
+        .unused
+        .iter()
+        .map(|&s| job.surfaces[s].name.as_str());
+    let few: Vec<&str> = names.take(5).collect();
+    if !few.is_empty() {
+        let more = adjustment.unused.len() - few.len();
+        let others = if more > 0 {
+            format!(" and {more} more")
+        } else {
+            String::new()
+        };
+        println!(
+            "Seen from one place only, and so left out: {}{others}.",
+            few.join(", ")
+        );
+    }
+}
+
+/// Gauss-Newton with a line of the table for each step, as it is made.
+fn settle(
+    job: &Job,
+    adjustment: &Adjustment,
+) -> Result<(Vec<Pose>, Vec<Progress>), Box<dyn Error>> {
+    println!();
+    println!("Gauss-Newton, until the cost settles:");
+    println!();
+    println!("  step             cost   wall thickness   worst pose");
+    let mut steps: Vec<Progress> = Vec::new();
+    let adjusted = adjustment.settle(job, |step, now| {
+        let worst = now
+            .worst
+            .map_or("         not known".to_owned(), |(metres, radians)| {
+                format!("{:>8.2} mm {:>6.3}°", 1000.0 * metres, radians.to_degrees())
+            });
+        let millimetres = 1000.0 * now.thickness;
+        println!(
+            "  {step:>4}   {:>14.1}   {millimetres:>11.3} mm   {worst}   {}",
+            now.cost,
+            bar(millimetres)
+        );
+        // A line shows when it is worked out, also through a pipe.
+        let _ = std::io::stdout().flush();
+        steps.push(*now);
+    })?;
+    if let Some(last) = steps.last() {
+        println!();
+        println!(
+            "The walls are {:.2} mm thick; the scanner's noise is {:.2} mm.",
+            1000.0 * last.thickness,
+            1000.0 * job.sigma
+        );
+    }
+    Ok((adjusted, steps))
+}
+
+/// A bar that is four signs longer for each doubling above a millimetre.
+fn bar(millimetres: f64) -> String {
+    let signs = (4.0 * millimetres.max(1.0).log2()).round().min(40.0);
+    "▇".repeat(signs as usize)
+}
+
+/// The plane of the story: the one asked for, the room's alcove, or the job's first.
+fn wall(options: &Options, job: &Job, adjustment: &Adjustment) -> Result<usize, String> {
+    let named = |name: &str| {
+        let is =
+            |plane: &maghnelt_demo::adjust::PlaneFactor| job.surfaces[plane.surface].name == name;
+        adjustment.planes.iter().position(is)
+    };
+    match &options.wall {
+        Some(name) => named(name).ok_or_else(|| {
+            let known: Vec<&str> = adjustment
+                .planes
+                .iter()
+                .map(|plane| job.surfaces[plane.surface].name.as_str())
+                .collect();
+            format!(
+                "no wall {name:?} was seen twice; there are: {}",
+                known.join(", ")
+            )
+        }),
+        None => Ok(named(room::STORY_WALL).unwrap_or(0)),
+    }
+}
+
+fn show_story(name: &str, story: &Story) {
+    println!();
+    println!(
+        "The story of the wall: where {name:?} stands after each save, by what is in the file."
+    );
+    println!();
+    println!("           each frame's own moments       sums moved, and moved again on loading");
+    println!("  saves       offset         drift           offset         drift     thickness");
+    for (saves, (own, moved)) in story.own.iter().zip(&story.moved).enumerate() {
+        let [own_offset, own_drift, offset, drift, thickness] = [
+            own.offset,
+            own.drift,
+            moved.offset,
+            moved.drift,
+            moved.thickness,
+        ]
+        .map(|metres| 1000.0 * metres);
+        println!(
+            "  {saves:>5}   {own_offset:>9.3} mm  {own_drift:>7.3} mm      {offset:>9.3} mm  {drift:>7.3} mm  {thickness:>8.3} mm"
+        );
+    }
+}
+
+fn show_speed(seed: u64) -> Result<(), Box<dyn Error>> {
+    let times = speed::measure(seed)?;
+    let each = times.pass.as_secs_f64() * 1e6 / speed::PLANES as f64;
+    println!(
+        "Ten thousand planes, {} frames, {} points: factors built in {:.0} ms, one pass of fit, dsyev and accumulate {:.0} ms, {each:.1} µs a plane.",
+        times.frames,
+        times.points,
+        times.build.as_secs_f64() * 1e3,
+        times.pass.as_secs_f64() * 1e3,
+    );
+    Ok(())
+}

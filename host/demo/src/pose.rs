@@ -1,0 +1,187 @@
+//! Poses: rigid motions from a frame into the site.
+
+use maghnelt::Action;
+
+/// A point or a direction.
+pub type Vector = [f64; 3];
+/// A matrix as its columns: `m[c][r]` is the entry of row r and column c.
+pub type Matrix = [[f64; 3]; 3];
+
+/// The parameters of a pose: a shift and a turn, both in the frame's own axes.
+pub const DOF: usize = 6;
+
+/// Where a scanner stood: `p ↦ R·p + t` takes what it saw into the site.
+#[derive(Clone, Copy, Debug, PartialEq)]
+pub struct Pose {
+    /// R, three columns.
+    pub rotation: Matrix,
+    /// t.
+    pub shift: Vector,
+}
+
+impl Pose {
+    /// The pose at the site's origin, along its axes.
+    pub const ORIGIN: Pose = Pose {
+        rotation: [[1.0, 0.0, 0.0], [0.0, 1.0, 0.0], [0.0, 0.0, 1.0]],
+        shift: [0.0; 3],
+    };
+
+    /// The pose at a place, turned by roll about x, then by pitch about y, then by yaw about z, in radians.
+    #[must_use]
+    pub fn new(shift: Vector, [yaw, pitch, roll]: Vector) -> Pose {
+        let about = |axis: Vector| turn(axis);
+        let rotation = product(
+            &about([0.0, 0.0, yaw]),
+            &product(&about([0.0, pitch, 0.0]), &about([roll, 0.0, 0.0])),
+        );
+        Pose { rotation, shift }
+    }
+
+    /// What the frame saw at `point`, in the site.
+    #[must_use]
+    pub fn to_site(&self, point: &Vector) -> Vector {
+        let turned = times(&self.rotation, point);
+        std::array::from_fn(|r| turned[r] + self.shift[r])
+    }
+
+    /// The site's `point` as the frame sees it.
+    #[must_use]
+    pub fn to_frame(&self, point: &Vector) -> Vector {
+        let off: Vector = std::array::from_fn(|r| point[r] - self.shift[r]);
+        self.rotation.map(|column| dot(&column, &off))
+    }
+
+    /// First `inner`, then this pose.
+    #[must_use]
+    pub fn after(&self, inner: &Pose) -> Pose {
+        Pose {
+            rotation: product(&self.rotation, &inner.rotation),
+            shift: self.to_site(&inner.shift),
+        }
+    }
+
+    /// The motion back.
+    #[must_use]
+    pub fn inverse(&self) -> Pose {
+        Pose {
+            rotation: transposed(&self.rotation),
+            shift: self.to_frame(&[0.0; 3]),
+        }
+    }
+
+    /// The pose after a step of the adjustment, taken in the frame's own axes as the action's derivatives are.
+    #[must_use]
+    pub fn moved(&self, step: &[f64; DOF]) -> Pose {
+        let [x, y, z, about_x, about_y, about_z] = *step;
+        self.after(&Pose {
+            rotation: turn([about_x, about_y, about_z]),
+            shift: [x, y, z],
+        })
+    }
+
+    /// What the library is told of the pose.
+    #[must_use]
+    pub fn action(&self) -> Action {
+        Action::rigid(&self.rotation, &self.shift)
+    }
+
+    /// How far apart two poses are: metres and radians.
+    #[must_use]
+    pub fn distance(&self, other: &Pose) -> (f64, f64) {
+        let between = self.inverse().after(other);
+        let [a, b, c] = between.rotation;
+        // The sine and the cosine, doubled: the cosine alone would lose half of the digits of a small angle.
+        let sine = norm(&[b[2] - c[1], c[0] - a[2], a[1] - b[0]]);
+        let cosine = a[0] + b[1] + c[2] - 1.0;
+        (norm(&between.shift), sine.atan2(cosine))
+    }
+}
+
+/// The rotation about an axis by its length in radians (Rodrigues).
+#[must_use]
+pub fn turn(axis: Vector) -> Matrix {
+    let angle = norm(&axis);
+    if angle == 0.0 {
+        return Pose::ORIGIN.rotation;
+    }
+    let unit = axis.map(|x| x / angle);
+    let (sin, cos) = angle.sin_cos();
+    std::array::from_fn(|c| {
+        let mut e = [0.0; 3];
+        e[c] = 1.0;
+        let across = cross(&unit, &e);
+        std::array::from_fn(|r| cos * e[r] + sin * across[r] + (1.0 - cos) * unit[c] * unit[r])
+    })
+}
+
+/// The sum of products.
+#[must_use]
+pub fn dot(a: &Vector, b: &Vector) -> f64 {
+    a[0] * b[0] + a[1] * b[1] + a[2] * b[2]
+}
+
+/// The length.
+#[must_use]
+pub fn norm(a: &Vector) -> f64 {
+    dot(a, a).sqrt()
+}
+
+/// The vector at a right angle to both.
+#[must_use]
+pub fn cross(a: &Vector, b: &Vector) -> Vector {
+    [
+        a[1] * b[2] - a[2] * b[1],
+        a[2] * b[0] - a[0] * b[2],
+        a[0] * b[1] - a[1] * b[0],
+    ]
+}
+
+/// Matrix times vector.
+#[must_use]
+pub fn times(m: &Matrix, v: &Vector) -> Vector {
+    std::array::from_fn(|r| (0..3).map(|c| m[c][r] * v[c]).sum())
+}
+
+/// Matrix times matrix.
+#[must_use]
+pub fn product(a: &Matrix, b: &Matrix) -> Matrix {
+    b.map(|column| times(a, &column))
+}
+
+fn transposed(m: &Matrix) -> Matrix {
+    std::array::from_fn(|c| std::array::from_fn(|r| m[r][c]))
+}
+
+#[cfg(test)]
+mod tests {
+    use super::*;
+
+    fn close(a: &Vector, b: &Vector) -> bool {
+        (0..3).all(|r| (a[r] - b[r]).abs() < 1e-14)
+    }
+
+    #[test]
+    fn there_and_back() {
+        let pose = Pose::new([1.0, -2.0, 0.5], [0.7, -0.2, 0.1]);
+        let point = [3.0, 4.0, 5.0];
+        assert!(close(&pose.to_frame(&pose.to_site(&point)), &point));
+        assert!(close(
+            &pose.inverse().to_site(&pose.to_site(&point)),
+            &point
+        ));
+        assert_eq!(pose.distance(&pose).0, 0.0);
+    }
+
+    #[test]
+    fn yaw_takes_x_to_y() {
+        let pose = Pose::new([0.0; 3], [std::f64::consts::FRAC_PI_2, 0.0, 0.0]);
+        assert!(close(&pose.to_site(&[1.0, 0.0, 0.0]), &[0.0, 1.0, 0.0]));
+    }
+
+    #[test]
+    fn a_step_is_as_far_as_it_says() {
+        let pose = Pose::new([1.0, -2.0, 0.5], [0.7, -0.2, 0.1]);
+        let (metres, radians) = pose.distance(&pose.moved(&[0.03, 0.0, 0.04, 0.0, 1e-3, 0.0]));
+        assert!((metres - 0.05).abs() < 1e-15 && (radians - 1e-3).abs() < 1e-15);
+    }
+}

@@ -1,0 +1,170 @@
+//! Jobs as files: what is written is read again, each mistake is named with its line, and what a job is short of is said.
+
+use maghnelt_demo::adjust::{Adjustment, Failure};
+use maghnelt_demo::job::Job;
+use maghnelt_demo::picture::Picture;
+use maghnelt_demo::pose::Pose;
+use maghnelt_demo::{room, saves};
+
+#[test]
+fn a_job_that_is_written_is_read_again() {
+    let job = room::job(9, 4);
+    let read = Job::read(&job.write()).unwrap();
+    assert_eq!(read.sigma, job.sigma);
+    assert_eq!(read.points(), job.points());
+    for (read, station) in read.stations.iter().zip(&job.stations) {
+        let pairs = [
+            (read.pose, station.pose),
+            (read.truth.unwrap(), station.truth.unwrap()),
+        ];
+        for (read, written) in pairs {
+            let (metres, radians) = read.distance(&written);
+            assert!(metres < 1e-6 && radians < 1e-6);
+        }
+    }
+}
+
+#[test]
+fn a_file_may_have_comments_and_blanks() {
+    let text =
+        "# a walk\n\nsigma, 0.004\npose, 1, 2, 3, 0, 0, 0 # here\n point , a wall , 1, 2, 3\n";
+    let job = Job::read(text).unwrap();
+    assert_eq!(job.sigma, 0.004);
+    assert_eq!(job.surfaces[0].name, "a wall");
+    assert_eq!(job.stations[0].points, [(0, [1.0, 2.0, 3.0])]);
+}
+
+#[test]
+fn mistakes_are_named() {
+    for (text, says) in [
+        ("", "the job has no pose"),
+        ("pose,0,0,0,0,0,0", "pose 1 saw no point"),
+        (
+            "pose,0,0,0",
+            "line 1: a pose needs six numbers: pose,X,Y,Z,YAW,PITCH,ROLL",
+        ),
+        (
+            "pose,0,0,0,0,0,north",
+            "line 1: \"north\" is no number; a pose needs six numbers: pose,X,Y,Z,YAW,PITCH,ROLL",
+        ),
+        (
+            "\npoint,wall,1,2,3",
+            "line 2: a point comes after the pose that saw it",
+        ),
+        ("truth,0,0,0,0,0,0", "line 1: a truth comes after its pose"),
+        (
+            "pose,0,0,0,0,0,0\npoint,1,2,3",
+            "line 2: a surface and three numbers are needed: point,SURFACE,X,Y,Z",
+        ),
+        ("fixed,wall,1,2,nan", "line 1: nan is not finite"),
+        ("sigma,0", "line 1: sigma has to be above 0, and is 0"),
+        (
+            "sigma,",
+            "line 1: \"\" is no number; sigma needs one number: sigma,METRES",
+        ),
+        (
+            "walls,3",
+            "line 1: a line begins with pose, truth, point, fixed or sigma, not with \"walls\"",
+        ),
+    ] {
+        assert_eq!(Job::read(text).unwrap_err().to_string(), says);
+    }
+    let crowd = "pose,0,0,0,0,0,0\npoint,wall,1,2,3\n".repeat(171);
+    let says = "the job has 171 poses, and 170 are the most that one Hessian holds";
+    assert_eq!(Job::read(&crowd).unwrap_err().to_string(), says);
+}
+
+/// A job in which two poses see the same squares, each at a right angle to one axis.
+fn squares(axes: &[usize]) -> Job {
+    let mut text = String::new();
+    for _ in 0..2 {
+        text.push_str("pose,0,0,0,0,0,0\n");
+        for &axis in axes {
+            for (u, v) in [(0, 0), (0, 2), (2, 0), (2, 2), (1, 1)] {
+                let mut point = [u, v, v];
+                point[(axis + 1) % 3] = u;
+                point[(axis + 2) % 3] = v;
+                point[axis] = 5;
+                let [x, y, z] = point;
+                text.push_str(&format!("point,square {axis},{x},{y},{z}\n"));
+            }
+        }
+    }
+    Job::read(&text).unwrap()
+}
+
+#[test]
+fn a_loose_pose_is_named() {
+    let settle = |job: &Job| Adjustment::new(job).unwrap().settle(job, |_, _| {});
+    assert_eq!(settle(&squares(&[2])), Err(Failure::Loose { pose: 1 }));
+    assert_eq!(settle(&squares(&[1, 2])), Err(Failure::Loose { pose: 1 }));
+    assert!(settle(&squares(&[0, 1, 2])).is_ok());
+}
+
+#[test]
+fn surfaces_seen_once_are_left_out() {
+    let mut job = squares(&[0, 1, 2]);
+    let lone = job.surface("lone");
+    job.stations[0].points.push((lone, [1.0, 1.0, 1.0]));
+    assert_eq!(Adjustment::new(&job).unwrap().unused, [lone]);
+
+    job.stations.truncate(1);
+    assert_eq!(Adjustment::new(&job).unwrap_err(), Failure::NothingShared);
+}
+
+#[test]
+fn what_the_library_refuses_is_said() {
+    let mut job = squares(&[0, 1, 2]);
+    let thin = job.surface("thin");
+    for station in &mut job.stations {
+        station.points.push((thin, [1.0, 1.0, 1.0]));
+    }
+    let refused = Adjustment::new(&job).unwrap_err();
+    assert_eq!(
+        refused.to_string(),
+        "surface \"thin\": reason 5: the frames' counts summed in order, plus the fixed count, are below 3"
+    );
+}
+
+#[test]
+fn own_moments_stay_and_moved_sums_walk_off() {
+    let job = room::job(60, 30);
+    let adjustment = Adjustment::new(&job).unwrap();
+    let adjusted = adjustment.settle(&job, |_, _| {}).unwrap();
+    let odometry: Vec<Pose> = job.stations.iter().map(|s| s.pose).collect();
+    let is_wall = |surface: usize| job.surfaces[surface].name == room::STORY_WALL;
+    let wall = adjustment
+        .planes
+        .iter()
+        .find(|p| is_wall(p.surface))
+        .unwrap();
+    let story = saves::story(wall, &odometry, &adjusted).unwrap().unwrap();
+    assert_eq!(story.own.len(), 1 + saves::SAVES);
+    for stand in &story.own {
+        assert_eq!(stand.offset.to_bits(), story.own[0].offset.to_bits());
+        assert!((stand.offset - 7.5).abs() < 0.002);
+    }
+    for pair in story.moved.windows(2) {
+        assert!(pair[1].drift.abs() > pair[0].drift.abs() + 0.01);
+        assert!(pair[1].thickness > pair[0].thickness + 0.005);
+    }
+    let picture = Picture {
+        job: &job,
+        walls: &room::WALLS,
+        adjusted: &adjusted,
+        steps: &[],
+        wall: wall.surface,
+        story: &story,
+    };
+    let svg = picture.svg();
+    assert!(svg.starts_with("<svg") && svg.ends_with("</svg>\n"));
+    assert!(!svg.contains("NaN") && !svg.contains("inf"));
+    for words in [
+        "alcove wall",
+        "before: by odometry",
+        "after: adjusted",
+        "1 m",
+    ] {
+        assert!(svg.contains(words), "{words}");
+    }
+}

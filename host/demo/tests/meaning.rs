@@ -1,0 +1,362 @@
+//! What the numbers mean, beyond their bits: H = JᵀJ and g = Jᵀr, g is the slope of the cost, and Gauss-Newton brings the
+//! walls down to the noise.
+
+use maghnelt::{
+    Action, BlockMap, Decomposition, FrameFactor, Linearized, MatchList, Moments, NormalEquations,
+    Plane, PlaneMatch,
+};
+use maghnelt_demo::adjust::{Adjustment, Progress};
+use maghnelt_demo::job::Job;
+use maghnelt_demo::lapack;
+use maghnelt_demo::pose::{cross, dot, product, times, turn, Matrix, Pose, Vector, DOF};
+use maghnelt_demo::random::Random;
+use maghnelt_demo::room;
+
+const SIGMA: f64 = 0.002;
+const UNITS: [Vector; 3] = [[1.0, 0.0, 0.0], [0.0, 1.0, 0.0], [0.0, 0.0, 1.0]];
+
+/// The groups that move points.
+#[derive(Clone, Copy, Debug, PartialEq)]
+enum Group {
+    /// A turn.
+    So3,
+    /// A shift and a turn.
+    Se3,
+    /// A shift, a turn and a change of scale.
+    Sim3,
+    /// A shift, a turn and a velocity, which no point notices.
+    Se23,
+}
+
+const GROUPS: [Group; 4] = [Group::So3, Group::Se3, Group::Sim3, Group::Se23];
+
+/// A state of any of the groups: `p ↦ A·p + b`, A being a rotation times a scale.
+#[derive(Clone, Copy, Debug)]
+struct State {
+    a: Matrix,
+    b: Vector,
+}
+
+impl Group {
+    fn dof(self) -> usize {
+        match self {
+            Group::So3 => 3,
+            Group::Se3 => 6,
+            Group::Sim3 => 7,
+            Group::Se23 => 9,
+        }
+    }
+
+    fn state(self, random: &mut Random) -> State {
+        let rotation = turn(random.normals(0.6));
+        let scale = if self == Group::Sim3 {
+            random.between(0.7, 1.4)
+        } else {
+            1.0
+        };
+        State {
+            a: rotation.map(|column| column.map(|x| scale * x)),
+            b: if self == Group::So3 {
+                [0.0; 3]
+            } else {
+                random.normals(2.0)
+            },
+        }
+    }
+
+    /// The state after a step in its own axes.
+    fn moved(self, state: &State, step: &[f64]) -> State {
+        let three = |from: usize| -> Vector { std::array::from_fn(|r| step[from + r]) };
+        let (shift, about, grown) = match self {
+            Group::So3 => ([0.0; 3], three(0), 1.0),
+            Group::Se3 | Group::Se23 => (three(0), three(3), 1.0),
+            Group::Sim3 => (three(0), three(3), step[6].exp()),
+        };
+        let along = times(&state.a, &shift);
+        State {
+            a: product(&state.a, &turn(about)).map(|column| column.map(|x| grown * x)),
+            b: std::array::from_fn(|r| state.b[r] + along[r]),
+        }
+    }
+
+    /// The derivative of `A·p + b` by the step, at no step, a column for each parameter.
+    fn derivative(self, state: &State, p: &Vector) -> Vec<Vector> {
+        let shifts = state.a.to_vec();
+        let turns = UNITS.map(|e| times(&state.a, &cross(&e, p))).to_vec();
+        match self {
+            Group::So3 => turns,
+            Group::Se3 => [shifts, turns].concat(),
+            Group::Sim3 => [shifts, turns, vec![times(&state.a, p)]].concat(),
+            Group::Se23 => [shifts, turns, vec![[0.0; 3]; 3]].concat(),
+        }
+    }
+
+    /// The derivative is affine in the point: four of its values say all.
+    fn action(self, state: &State) -> Action {
+        let origin = self.derivative(state, &[0.0; 3]);
+        let axes = UNITS.map(|e| {
+            let columns = self.derivative(state, &e).into_iter().zip(&origin);
+            let less =
+                |(c, o): (Vector, &Vector)| -> Vector { std::array::from_fn(|r| c[r] - o[r]) };
+            columns.map(less).collect::<Vec<Vector>>()
+        });
+        Action::new(&state.a, &state.b, &origin, [&axes[0], &axes[1], &axes[2]])
+    }
+}
+
+/// A wall that three frames saw, from states that are a little off, and a fixed set.
+struct Wall {
+    group: Group,
+    states: Vec<State>,
+    factor: FrameFactor,
+}
+
+impl Wall {
+    fn new(group: Group, with_fixed: bool, seed: u64) -> Wall {
+        let mut random = Random::new(seed);
+        let place = Pose::new(random.normals(3.0), random.normals(1.0));
+        let truths: Vec<State> = (0..3).map(|_| group.state(&mut random)).collect();
+        let mut points = |count: usize| -> Vec<Vector> {
+            let mut on_wall = || {
+                [
+                    random.between(-2.0, 2.0),
+                    random.between(-1.0, 1.0),
+                    random.normal(0.004),
+                ]
+            };
+            (0..count).map(|_| place.to_site(&on_wall())).collect()
+        };
+        let own = |(k, state): (usize, &State)| {
+            let seen: Vec<Vector> = points(30 + 7 * k)
+                .iter()
+                .map(|p| seen_from(state, p))
+                .collect();
+            Moments::from_points(&seen).unwrap()
+        };
+        let own: Vec<Moments> = truths.iter().enumerate().map(own).collect();
+        let known = Moments::from_points(&points(25)).unwrap();
+        let known = with_fixed.then_some(&known);
+        let mut off = |state: &State| {
+            let step: Vec<f64> = (0..group.dof()).map(|_| random.normal(0.003)).collect();
+            group.moved(state, &step)
+        };
+        Wall {
+            group,
+            states: truths.iter().map(&mut off).collect(),
+            factor: FrameFactor::new(group.dof() as u32, &own, known, SIGMA).unwrap(),
+        }
+    }
+
+    fn actions(&self, states: &[State]) -> Vec<Action> {
+        states
+            .iter()
+            .map(|state| self.group.action(state))
+            .collect()
+    }
+
+    fn fitted(&self, actions: &[Action]) -> Decomposition {
+        let sums = self.factor.fit(actions).unwrap();
+        lapack::decomposition(&sums.scatter).unwrap()
+    }
+
+    /// Normal equations and cost, the plane being fitted anew.
+    fn accumulated(&self, states: &[State]) -> (NormalEquations, f64) {
+        let dof = self.group.dof();
+        let actions = self.actions(states);
+        let mut normal = NormalEquations::zeros(states.len() * dof);
+        let map = BlockMap::new((0..states.len()).map(|f| Some((f * dof) as u32))).unwrap();
+        let fitted = self.fitted(&actions);
+        let cost = self.factor.accumulate(&actions, &fitted, &map, &mut normal);
+        (normal, cost.unwrap())
+    }
+}
+
+/// The point that the state carries to `p`.
+fn seen_from(state: &State, p: &Vector) -> Vector {
+    let off: Vector = std::array::from_fn(|r| p[r] - state.b[r]);
+    // A is a rotation times a scale, so its inverse is its transpose by the square of the scale.
+    state
+        .a
+        .map(|column| dot(&column, &off) / dot(&column, &column))
+}
+
+/// Every group, with a fixed set and without, some seeds each.
+fn walls() -> impl Iterator<Item = Wall> {
+    let of_group = |group| (0..12).map(move |seed| Wall::new(group, seed % 2 == 0, 1000 + seed));
+    GROUPS.into_iter().flat_map(of_group)
+}
+
+/// H = JᵀJ, g = Jᵀr and cost = rᵀr, each as near as rounding leaves it: `size` is the root of the largest sum of squares that
+/// the rows come from.
+fn agree(normal: &NormalEquations, cost: f64, rows: &Linearized, size: f64) {
+    const ROUNDING: f64 = 1e-13;
+    let (n, residual) = (normal.order(), rows.residual());
+    let column = |c: usize| &rows.columns()[c * residual.len()..(c + 1) * residual.len()];
+    let sum = |a: &[f64], b: &[f64]| -> f64 { a.iter().zip(b).map(|(x, y)| x * y).sum() };
+    let stiff = |i: usize| normal.hessian(i, i).sqrt() + size;
+    assert!((cost - sum(residual, residual)).abs() <= ROUNDING * size * size);
+    for i in 0..n {
+        let slope = sum(column(i), residual);
+        let off = (normal.gradient()[i] - slope).abs();
+        assert!(off <= ROUNDING * stiff(i) * size, "g({i})");
+        for j in 0..n {
+            let entry = sum(column(i), column(j));
+            let off = (normal.hessian(i, j) - entry).abs();
+            assert!(off <= ROUNDING * stiff(i) * stiff(j), "H({i},{j})");
+        }
+    }
+}
+
+/// Twice g is the slope of the cost, by central differences: the cost is the sum of squares, and g is Jᵀr. `cost_at` has the cost
+/// with one parameter moved.
+fn is_slope(normal: &NormalEquations, cost: f64, cost_at: impl Fn(usize, f64) -> f64) {
+    const H: f64 = 1e-6;
+    for (i, g) in normal.gradient().iter().enumerate() {
+        let slope = (cost_at(i, H) - cost_at(i, -H)) / (2.0 * H);
+        // By Cauchy and Schwarz no slope is steeper than this.
+        let steepest = 2.0 * (normal.hessian(i, i) * cost).sqrt();
+        // What rounding does to the two costs.
+        let rounded = 1e-11 * cost / H;
+        let off = (slope - 2.0 * g).abs();
+        assert!(off <= 1e-6 * steepest + rounded, "{i}: {slope} {}", 2.0 * g);
+    }
+}
+
+#[test]
+fn the_gradient_is_the_slope_of_the_cost() {
+    for wall in walls() {
+        let dof = wall.group.dof();
+        let (normal, cost) = wall.accumulated(&wall.states);
+        is_slope(&normal, cost, |i, h| {
+            let mut step = vec![0.0; dof];
+            step[i % dof] = h;
+            let mut states = wall.states.clone();
+            states[i / dof] = wall.group.moved(&states[i / dof], &step);
+            wall.accumulated(&states).1
+        });
+    }
+}
+
+#[test]
+fn the_gradient_of_a_job_is_the_slope_of_its_cost() {
+    let job = room::job(3, 30);
+    let adjustment = Adjustment::new(&job).unwrap();
+    let poses: Vec<Pose> = job.stations.iter().map(|s| s.pose).collect();
+    let (normal, cost) = adjustment.normal_equations(&job, &poses).unwrap();
+    assert_eq!(normal.order(), 30 * DOF);
+    is_slope(&normal, cost, |i, h| {
+        let mut step = [0.0; DOF];
+        step[i % DOF] = h;
+        let mut poses = poses.clone();
+        poses[i / DOF] = poses[i / DOF].moved(&step);
+        adjustment.normal_equations(&job, &poses).unwrap().1
+    });
+}
+
+/// Matches of points with planes through them, under a state that is a little off.
+struct Scan {
+    group: Group,
+    state: State,
+    matches: MatchList,
+}
+
+impl Scan {
+    /// More than one group of 512.
+    fn new(group: Group, seed: u64) -> Scan {
+        let mut random = Random::new(seed);
+        let truth = group.state(&mut random);
+        let mut one = || {
+            let place = random.normals(3.0);
+            let plane = Plane::new(random.normals(1.0), 0.0).unwrap();
+            let off = random.normal(0.004) - dot(&plane.normal, &place);
+            PlaneMatch {
+                point: seen_from(&truth, &place),
+                plane: Plane {
+                    normal: plane.normal,
+                    offset: off,
+                },
+                sigma: random.between(0.001, 0.003),
+            }
+        };
+        let matches: Vec<PlaneMatch> = (0..700).map(|_| one()).collect();
+        let step: Vec<f64> = (0..group.dof()).map(|_| random.normal(0.003)).collect();
+        Scan {
+            group,
+            state: group.moved(&truth, &step),
+            matches: MatchList::new(group.dof() as u32, matches),
+        }
+    }
+
+    fn accumulated(&self, state: &State) -> (NormalEquations, f64) {
+        let mut normal = NormalEquations::zeros(self.group.dof());
+        let map = BlockMap::new([Some(0)]).unwrap();
+        let action = self.group.action(state);
+        let cost = self.matches.accumulate(&action, &map, &mut normal).unwrap();
+        (normal, cost)
+    }
+}
+
+#[test]
+fn matches_mean_the_same() {
+    for group in GROUPS {
+        for seed in 0..6 {
+            let scan = Scan::new(group, seed);
+            let (normal, cost) = scan.accumulated(&scan.state);
+            let rows = scan.matches.linearize(&group.action(&scan.state)).unwrap();
+            agree(&normal, cost, &rows, cost.sqrt());
+            is_slope(&normal, cost, |i, h| {
+                let mut step = vec![0.0; group.dof()];
+                step[i] = h;
+                scan.accumulated(&group.moved(&scan.state, &step)).1
+            });
+        }
+    }
+}
+
+/// The poses of a job after its adjustment, and its steps.
+fn settled(job: &Job) -> (Vec<Pose>, Vec<Progress>) {
+    let mut steps = Vec::new();
+    let adjustment = Adjustment::new(job).unwrap();
+    let poses = adjustment.settle(job, |_, now| steps.push(*now)).unwrap();
+    (poses, steps)
+}
+
+#[test]
+fn walls_come_down_to_the_noise() {
+    for (seed, poses) in [(60, 30), (1, 30), (2, 10), (3, 3), (4, 60)] {
+        let job = room::job(seed, poses);
+        let (_, steps) = settled(&job);
+        let (first, last) = (steps[0], steps[steps.len() - 1]);
+        assert!(
+            first.thickness > 2.0 * room::NOISE,
+            "seed {seed}: {first:?}"
+        );
+        assert!(
+            (last.thickness / room::NOISE - 1.0).abs() < 0.02,
+            "seed {seed}: {last:?}"
+        );
+        let (metres, radians) = last.worst.unwrap();
+        assert!(metres < 0.002 && radians < 0.001, "seed {seed}: {last:?}");
+        assert!(steps.len() < 60, "seed {seed} did not settle");
+        for pair in steps.windows(2) {
+            assert!(pair[1].cost <= pair[0].cost, "seed {seed}: the cost rose");
+        }
+    }
+}
+
+#[test]
+fn without_known_points_the_first_pose_stays() {
+    let mut job = room::job(5, 12);
+    for surface in &mut job.surfaces {
+        surface.fixed.clear();
+    }
+    let (poses, steps) = settled(&job);
+    let last = steps[steps.len() - 1];
+    let (metres, radians) = poses[0].distance(&job.stations[0].pose);
+    assert!(metres < 1e-12 && radians < 1e-12);
+    assert_ne!(poses[1], job.stations[1].pose);
+    assert!(
+        (last.thickness / room::NOISE - 1.0).abs() < 0.02,
+        "{last:?}"
+    );
+}
