@@ -1,2 +1,3 @@
 pub mod Accumulate
 pub mod Build
+pub mod Linearize
