@@ -170,6 +170,18 @@ uint32_t maghnelt_matches_linearize(uint32_t dof, const double *matches, size_t 
                                     size_t action_length, double *residual, size_t residual_length, double *jacobian,
                                     size_t jacobian_length);
 
+/* ---- one match below its chain: MAGHNELT_MATCH numbers, the plane being taken as it comes ---- */
+
+/*
+ * The residual (normal . world + offset) / sigma of a match whose point a chain of a state and an extrinsic carries to
+ * world (3), and the row of its derivatives, dof by the state and then 6 by the extrinsic; an empty row is not wanted.
+ * d_state has 3 numbers a column, d_extrinsic 18. Refused by 1, 2, 3, 6 and 7; 6 looks at the match's own point alone.
+ */
+uint32_t maghnelt_match_linearize(uint32_t dof, const double *match, size_t match_length, const double *world,
+                                  size_t world_length, const double *d_state, size_t d_state_length,
+                                  const double *d_extrinsic, size_t d_extrinsic_length, double *residual, double *row,
+                                  size_t row_length);
+
 #ifdef __cplusplus
 }
 #endif

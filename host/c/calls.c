@@ -226,6 +226,28 @@ static void matches(void) {
            "the first bad match decides");
 }
 
+static void one_match(void) {
+    const double match[MAGHNELT_MATCH] = {0, 0, 0, 3, 3, 3, 1, 3};
+    const double bad[MAGHNELT_MATCH] = {0, 0, NAN, 3, 3, 3, 1, 3};
+    const double world[] = {1, 1, 1};
+    const double d_state[] = {1, 0, 0};
+    const double d_extrinsic[18] = {.1, .2, .3};
+    double residual = 7;
+    double row[7] = {7};
+
+    expect(maghnelt_match_linearize(1, SLICE(bad), SLICE(world), SLICE(d_state), SLICE(d_extrinsic), &residual, SLICE(row)) == 6 &&
+               residual == 7 && row[0] == 7,
+           "a point that is not finite is refused");
+    expect(maghnelt_match_linearize(1, match, 0, SLICE(world), SLICE(d_state), SLICE(d_extrinsic), &residual, SLICE(row)) == 2,
+           "no match is refused");
+    expect(maghnelt_match_linearize(1, SLICE(match), SLICE(world), SLICE(d_state), SLICE(d_extrinsic), &residual, row, 0) == 0 &&
+               residual == 10 * (1.0 / 3.0) && row[0] == 7,
+           "a residual without its row");
+    expect(maghnelt_match_linearize(1, SLICE(match), SLICE(world), SLICE(d_state), SLICE(d_extrinsic), &residual, SLICE(row)) == 0 &&
+               row[0] == 1 && row[1] == 0.6000000000000001 && row[6] == 0,
+           "a row, its extrinsic columns scaled first");
+}
+
 int main(void) {
     leaves();
     moments();
@@ -236,5 +258,6 @@ int main(void) {
     fit();
     frame_factor();
     matches();
+    one_match();
     return failures != 0;
 }

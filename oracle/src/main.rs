@@ -2,8 +2,9 @@
 
 use oracle::generator::Generator;
 use oracle::groups::{
-    frames_accumulate, frames_build, frames_fit, lists, matches_accumulate, matches_linearize,
-    moments, moments_plane, number, order, plane_new, remap, root_steps, scatter, sigma, sqrt,
+    frames_accumulate, frames_build, frames_fit, lists, match_linearize, matches_accumulate,
+    matches_linearize, moments, moments_plane, number, order, plane_new, remap, root_steps,
+    scatter, sigma, sqrt,
 };
 use oracle::report::Report;
 use std::process::ExitCode;
@@ -89,6 +90,11 @@ const GROUPS: &[Group] = &[
         name: "matches_linearize",
         about: "residuals and derivatives of matches against a model",
         run: matches_linearize::run,
+    },
+    Group {
+        name: "match_linearize",
+        about: "one match below its chain against a model",
+        run: match_linearize::run,
     },
     Group {
         name: "lists",

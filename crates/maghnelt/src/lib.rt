@@ -15,6 +15,7 @@ ghost use Rattle.plane_moments.specs.Accumulate.{framesCall, work};
 ghost use Rattle.call_lists.specs.Accumulated.{Accumulated};
 ghost use Rattle.map_planes.specs.Accumulate.{matchesCall};
 ghost use Rattle.map_planes.specs.Linearize.{Linearized};
+ghost use Rattle.map_plane.specs.Linearize.{Linearized as OneLinearized};
 
 // IEEE 754's squareRoot.
 #[no_mangle]
@@ -232,4 +233,20 @@ pub extern "C" fn maghnelt_matches_linearize(
     ensures { λ r. ⌜ Linearized dof (now (matches .entry)) (now (action .entry)) r (now (residual .entry)) (now (jacobian .entry)) (now (residual .exit)) (now (jacobian .exit)) ⌝ }
 {
     map_planes::linearize(dof, matches, action, residual, jacobian)
+}
+
+// The residual of one match below its chain, and its row.
+#[no_mangle]
+pub extern "C" fn maghnelt_match_linearize(
+    dof: u32,
+    matched: &[f64],
+    world: &[f64],
+    d_state: &[f64],
+    d_extrinsic: &[f64],
+    residual: &mut f64,
+    row: &mut [f64],
+) -> u32
+    ensures { λ r. ⌜ OneLinearized (record { dof = dof; matched = now (matched .entry); world = now (world .entry); dState = now («d_state» .entry); dExtrinsic = now («d_extrinsic» .entry) }) r (now (residual .entry)) (now (row .entry)) (now (residual .exit)) (now (row .exit)) ⌝ }
+{
+    map_plane::linearize(dof, matched, world, d_state, d_extrinsic, residual, row)
 }

@@ -153,4 +153,18 @@ extern "C" {
         jacobian: *mut f64,
         jacobian_length: usize,
     ) -> u32;
+    pub(crate) fn maghnelt_match_linearize(
+        dof: u32,
+        record: *const f64,
+        record_length: usize,
+        world: *const f64,
+        world_length: usize,
+        d_state: *const f64,
+        d_state_length: usize,
+        d_extrinsic: *const f64,
+        d_extrinsic_length: usize,
+        residual: *mut f64,
+        row: *mut f64,
+        row_length: usize,
+    ) -> u32;
 }

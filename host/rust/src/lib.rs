@@ -16,6 +16,7 @@
 //! | [`frames_fit`] | the mean and the scatter that a plane is fitted to over several frames |
 //! | [`MatchList`] | matches of points with planes on one pose: cost, normal equations, residuals |
 //! | [`NormalEquations`] | the Hessian and the gradient that factors add to |
+//! | [`PlaneMatch::linearize`] | the residual of one match below its chain, and its derivatives |
 //! | [`sqrt`] | the correctly rounded square root, IEEE 754's squareRoot |
 //! | [`total_order_key`] | an integer that orders bit patterns as IEEE 754's totalOrder |
 //!
@@ -62,7 +63,7 @@ pub use block_map::{BlockMap, UNMAPPED};
 pub use frame_factor::FrameFactor;
 pub use frames::{frames_fit, Action, Centred, FitSums};
 pub use linearized::Linearized;
-pub use matches::{MatchList, PlaneMatch};
+pub use matches::{MatchList, MatchRow, PlaneMatch};
 pub use moments::{Decomposition, FittedPlane, MeanAndScatter, Moments};
 pub use normal_equations::NormalEquations;
 pub use plane::{point_to_plane_sigma, Plane};

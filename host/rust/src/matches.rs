@@ -1,4 +1,4 @@
-//! Matches of points with planes of a map on one pose.
+//! Matches of points with planes of a map: a list of them on one pose, and one below its chain.
 
 use crate::{slices, Action, BlockMap, Linearized, NormalEquations, Plane, Refusal, MATCH};
 
@@ -22,6 +22,68 @@ impl PlaneMatch {
         let [a, b, c] = self.plane.normal;
         [x, y, z, a, b, c, self.plane.offset, self.sigma]
     }
+
+    /// The residual of this match, its point being carried to `world` by a chain of a state and an extrinsic, and the row of
+    /// the residual's derivatives: by the state's parameters, of which `d_state` has the world point's derivatives, and by
+    /// the six of the extrinsic.
+    ///
+    /// # Errors
+    ///
+    /// [`Refusal::DOF`] for more than nine columns of `d_state`, [`Refusal::NOT_FINITE`] if a coordinate of the match's own
+    /// point is not finite, [`Refusal::SIGMA`] if its sigma is not finite and positive.
+    ///
+    /// # Examples
+    ///
+    /// ```
+    /// use maghnelt::{Plane, PlaneMatch};
+    ///
+    /// # fn main() -> Result<(), maghnelt::Refusal> {
+    /// let floor = Plane { normal: [0.0, 0.0, 1.0], offset: 0.0 };
+    /// let seen = PlaneMatch { point: [1.0, 2.0, -3.0], plane: floor, sigma: 0.5 };
+    /// // Half a metre above the floor, and lifted by the one parameter.
+    /// let lifted = seen.linearize(&[1.0, 2.0, 0.5], &[[0.0, 0.0, 1.0]], &[[0.0; 3]; 6])?;
+    /// assert_eq!(lifted.residual, 1.0);
+    /// assert_eq!(lifted.state, [2.0]);
+    /// assert_eq!(lifted.extrinsic, [0.0; 6]);
+    /// # Ok(())
+    /// # }
+    /// ```
+    pub fn linearize(
+        &self,
+        world: &[f64; 3],
+        d_state: &[[f64; 3]],
+        d_extrinsic: &[[f64; 3]; 6],
+    ) -> Result<MatchRow, Refusal> {
+        let mut residual = 0.0;
+        let mut row = vec![0.0; d_state.len() + 6];
+        slices::match_linearize(
+            u32::try_from(d_state.len()).unwrap_or(u32::MAX),
+            &self.record(),
+            world,
+            d_state.as_flattened(),
+            d_extrinsic.as_flattened(),
+            &mut residual,
+            &mut row,
+        )?;
+        let extrinsic = std::array::from_fn(|c| row[d_state.len() + c]);
+        row.truncate(d_state.len());
+        Ok(MatchRow {
+            residual,
+            state: row,
+            extrinsic,
+        })
+    }
+}
+
+/// What [`PlaneMatch::linearize`] gives.
+#[derive(Clone, Debug, PartialEq)]
+pub struct MatchRow {
+    /// The residual.
+    pub residual: f64,
+    /// Its derivatives by the state's parameters.
+    pub state: Vec<f64>,
+    /// Its derivatives by the extrinsic's.
+    pub extrinsic: [f64; 6],
 }
 
 /// Matches of points that one pose carries into the site.

@@ -414,3 +414,41 @@ pub fn matches_linearize(
         )
     })
 }
+
+/// Writes the residual of one match below its chain and, if `row` is not empty, its derivatives: `dof` by the state and 6 by
+/// the extrinsic. `world` is the point where the chain carries it (3), `d_state` and `d_extrinsic` its derivatives, three
+/// numbers a column.
+///
+/// # Errors
+///
+/// [`Refusal::DOF`]; [`Refusal::EMPTY_LIST`]: `record` is empty; [`Refusal::LENGTH`]: it has not [`MATCH`](crate::MATCH)
+/// numbers, `world` not 3, `d_state` not 3 for each of the dof, `d_extrinsic` not 18, or `row` neither none nor dof + 6; then
+/// [`Refusal::NOT_FINITE`], for the match's own point alone, and [`Refusal::SIGMA`].
+#[inline]
+pub fn match_linearize(
+    dof: u32,
+    record: &[f64],
+    world: &[f64],
+    d_state: &[f64],
+    d_extrinsic: &[f64],
+    residual: &mut f64,
+    row: &mut [f64],
+) -> Result<(), Refusal> {
+    // SAFETY: as said at the head of this file.
+    Refusal::of_answer(unsafe {
+        ffi::maghnelt_match_linearize(
+            dof,
+            record.as_ptr(),
+            record.len(),
+            world.as_ptr(),
+            world.len(),
+            d_state.as_ptr(),
+            d_state.len(),
+            d_extrinsic.as_ptr(),
+            d_extrinsic.len(),
+            residual,
+            row.as_mut_ptr(),
+            row.len(),
+        )
+    })
+}

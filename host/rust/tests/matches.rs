@@ -28,6 +28,48 @@ fn a_record_is_point_normal_offset_and_sigma() {
     assert_eq!(record.record(), [1.0, 2.0, 3.0, 4.0, 5.0, 6.0, 1.0, 0.5]);
 }
 
+#[test]
+fn a_residual_is_the_distance_of_the_world_point_over_sigma() {
+    let row = with([1.0, 2.0, 3.0], 0.5).linearize(&[10.0, 100.0, 1000.0], &[], &[[0.0; 3]; 6]);
+    assert_eq!(row.unwrap().residual, 6422.0);
+}
+
+#[test]
+fn the_extrinsic_columns_are_scaled_first_and_the_state_columns_last() {
+    let column = [0.1, 0.2, 0.3];
+    let mut d_extrinsic = [[0.0; 3]; 6];
+    d_extrinsic[5] = column;
+    let row = with([3.0; 3], 3.0)
+        .linearize(&[0.0; 3], &[column, [1.0, 0.0, 0.0]], &d_extrinsic)
+        .unwrap();
+    assert_eq!(row.extrinsic[5], 0.6000000000000001);
+    assert_eq!(row.extrinsic[..5], [0.0; 5]);
+    let information = 1.0 / 3.0;
+    assert_eq!(
+        row.state[0],
+        information * (0.3 + 0.6000000000000001 + 0.8999999999999999)
+    );
+    assert_eq!(row.state[1], information * 3.0);
+}
+
+#[test]
+fn matches_that_are_refused() {
+    let refused = |record: PlaneMatch, columns: usize| {
+        let columns = vec![[0.0; 3]; columns];
+        let answer = record.linearize(&[f64::NAN; 3], &columns, &[[f64::INFINITY; 3]; 6]);
+        answer.map(|_| ())
+    };
+    let good = with([f64::NAN; 3], 1.0);
+    let bad_sigma = with([1.0; 3], 0.0);
+    let mut bad_point = bad_sigma;
+    bad_point.point[2] = f64::NEG_INFINITY;
+    // Neither the plane nor the chain is tested.
+    assert_eq!(refused(good, 9), Ok(()));
+    assert_eq!(refused(bad_point, 10), Err(Refusal::DOF));
+    assert_eq!(refused(bad_point, 9), Err(Refusal::NOT_FINITE));
+    assert_eq!(refused(bad_sigma, 9), Err(Refusal::SIGMA));
+}
+
 /// A match whose residual under a pose that moves nothing is that number.
 fn with_residual(residual: f64) -> PlaneMatch {
     let plane = Plane {

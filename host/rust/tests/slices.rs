@@ -280,6 +280,47 @@ fn fit() {
 }
 
 #[test]
+fn one_match() {
+    let answer = |dof: u32, lengths: [usize; 5], filled: f64| {
+        let [record, world, d_state, d_extrinsic, row] = lengths;
+        let mut residual = patterns(1)[0];
+        let mut out = patterns(row);
+        let answer = slices::match_linearize(
+            dof,
+            &vec![filled; record],
+            &vec![filled; world],
+            &vec![filled; d_state],
+            &vec![filled; d_extrinsic],
+            &mut residual,
+            &mut out,
+        );
+        if answer.is_err() {
+            assert_eq!(residual.to_bits(), patterns(1)[0].to_bits());
+            assert_eq!(bits(&out), bits(&patterns(row)));
+        }
+        answer
+    };
+    let right = [MATCH, 3, 6, 18, 8];
+    assert_eq!(answer(2, right, 1.0), Ok(()));
+    assert_eq!(answer(2, [MATCH, 3, 6, 18, 0], 1.0), Ok(()));
+    assert_eq!(answer(2, right, f64::NAN), Err(Refusal::NOT_FINITE));
+    assert_eq!(answer(2, right, -1.0), Err(Refusal::SIGMA));
+    for lengths in wrong(right) {
+        if lengths[..4] == right[..4] && lengths[4] == 0 {
+            continue;
+        }
+        let expected = match lengths[0] {
+            0 => Refusal::EMPTY_LIST,
+            _ => Refusal::LENGTH,
+        };
+        for filled in [1.0, f64::NAN] {
+            assert_eq!(answer(2, lengths, filled), Err(expected), "{lengths:?}");
+            assert_eq!(answer(10, lengths, filled), Err(Refusal::DOF));
+        }
+    }
+}
+
+#[test]
 fn matches() {
     let ones = vec![1.0; 4 * ACTION];
     // dof 2, lengths of matches and action, words, order by the gradient's and the Hessian's length.

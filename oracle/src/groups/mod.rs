@@ -7,6 +7,7 @@ pub mod frames_accumulate;
 pub mod frames_build;
 pub mod frames_fit;
 pub mod lists;
+pub mod match_linearize;
 pub mod matches_accumulate;
 pub mod matches_linearize;
 pub mod moments;
