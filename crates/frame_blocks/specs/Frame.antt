@@ -1,40 +1,15 @@
--- What one frame costs and what it adds under a plane, and what the fixed set costs. Definitions only.
+-- What one frame adds under a plane: its block and its vector. Definitions only.
 -- x is the frame's action, f the centred frame, n the plane's normal and offset its offset.
 use Prim.Native.Nat.{ℕ}
 use mathlib.Core.List.{List}
-use lib.Ieee.{Float, binary64, ofBits, div}
-use Rattle.sums.specs.Sum.{_⊕_, _⊗_, sumTo, dot, product, column}
+use lib.Ieee.{Float}
+use Rattle.sums.specs.Sum.{_⊕_, _⊗_, sumTo, column}
 use Rattle.derivative.specs.Derivative.{dAn, dAlong, dScatter}
 use Rattle.point_moments.specs.declared.scatter.Centred.{Centred}
-use Rattle.plane_fit.specs.Fit.{centre}
-use Rattle.frame_normal.specs.Normal.{normalIn, alongOf}
+use Rattle.frame_normal.specs.Normal.{normalIn}
+use Rattle.frame_cost.specs.Cost.{scatterOn, frameAlong}
 
--- "Weight is 1 / (sigma·sigma)"
-unfoldable pub weightOf : Float → Float
-weightOf sigma = div binary64 (ofBits binary64 0x3ff0_0000_0000_0000) (sigma ⊗ sigma)
-
--- ---- the cost
-
--- scatter·a, whose entry is Σ_c S(r,c)·a_c
-unfoldable pub scatterOn : Centred → List Float → List Float
-scatterOn f a = product 3 3 1 (f .scatter) a
-
--- "(a_n·(scatter·a_n) + count·along·along)·weight", for a set that sees the normal as a and has its mean `along` off the plane
-unfoldable pub costOf : Centred → List Float → Float → Float → Float
-costOf f a along weight = (dot 3 a (scatterOn f a) ⊕ f .count ⊗ along ⊗ along) ⊗ weight
-
--- "along = normal·(A·mean + b) + offset"
-abbrev pub frameAlong : List Float → Centred → List Float → Float → Float
-frameAlong x f n offset = alongOf n offset (centre x f)
-
-unfoldable pub frameCost : List Float → Centred → List Float → Float → Float → Float
-frameCost x f n offset weight = costOf f (normalIn x n) (frameAlong x f n offset) weight
-
--- no action touches the fixed set: it sees the normal as it is
-unfoldable pub fixedCost : Centred → List Float → Float → Float → Float
-fixedCost f n offset weight = costOf f n (alongOf n offset (f .mean)) weight
-
--- ---- the block and the vector, by the derivatives D of Aᵀn, m of along, and P = DᵀS
+-- D is the derivative of Aᵀn, m that of along, and P = DᵀS
 
 -- h(i,j) = ((Σ_k P(i,k)·D(k,j)) + (m_i·m_j)·count)·weight. h(i,j) and h(j,i) need not have the same bits
 unfoldable pub blockEntry : List Float → Centred → List Float → Float → ℕ → ℕ → Float

@@ -1,10 +1,10 @@
--- All frames of a call under a plane: what they cost with the fixed set, and what each of them adds where. Assumes nothing.
-use native.Mathlib.Omega.{arith}
-use Prim.Native.Nat.{ℕ, suc, _+_, _*_, _≤_, _<_}
+-- All frames of a call under a plane: what each of them adds where, and what they cost with the fixed set. Assumes nothing.
+use Prim.Native.Nat.{ℕ, zero, suc, _+_, _*_, _≤_, _<_}
 use native.Mathlib.Numerals.{add-one}
-use mathlib.Core.Path.{_≡_, refl, ap, ap₂, _∙_}
+use mathlib.Core.Path.{_≡_, refl, sym, ap, ap₂, _∙_}
+use native.Mathlib.Omega.{arith}
 use mathlib.Core.Bool.{false}
-use mathlib.Core.List.{List, [], _∷_}
+use mathlib.Core.List.{List}
 use lib.ListN.{length}
 use lib.Ieee.{Float}
 use Rattle.sums.specs.Sum.{_⊕_, zeroF, sumFromZero}
@@ -12,7 +12,7 @@ use Rattle.terms.specs.Terms.{addAll, upto}
 use Rattle.terms.specs.Laws.{upto-none}
 use Rattle.normal_blocks.specs.declared.Place.{Place}
 use Rattle.normal_blocks.specs.Map.{lookup, exceeds, someExceeds}
-use Rattle.normal_blocks.specs.Laws.{fits}
+use Rattle.normal_blocks.specs.Laws.{lookup-past, fits}
 use Rattle.normal_blocks.specs.TargetLaws.{hessian-mapped, gradient-mapped, hessian-unmapped, gradient-unmapped}
 use Rattle.normal_blocks.specs.declared.Place.the-variants.{At, Unmapped}
 use Rattle.normal_blocks.specs.Target.{hessianAt, gradientAt}
@@ -20,21 +20,12 @@ use Rattle.call_lists.specs.Frames.{Frames, frameHessian, frameGradient}
 use Rattle.call_lists.specs.FrameLaws.{hessian-more, gradient-more}
 use Rattle.derivative.specs.Action.{actionSize}
 use Rattle.point_moments.specs.declared.scatter.Centred.{Centred}
-use Rattle.point_moments.specs.Scatter.{centredOf}
 use Rattle.frame_normal.specs.Normal.{normalIn}
 use Rattle.plane_fit.specs.Fit.{frameCount, frameAt, actionAt, andFixed}
-use Rattle.frame_blocks.specs.Frame.{frameAlong, frameCost, fixedCost, blockEntry, pulledEntry, vectorEntry}
-use Rattle.frame_blocks.specs.Steps.{pullOf, Added}
-use Rattle.frame_blocks.specs.declared.Pull.{Pull}
-
--- what frame k costs
-unfoldable pub costAt : List Float → List Float → List Float → Float → Float → ℕ → Float
-costAt frames actions n offset weight k = frameCost (actionAt actions k) (frameAt frames k) n offset weight
-
--- Σ₀ over the frames, then the fixed set's
-unfoldable pub framesCost : List Float → List Float → List Float → List Float → Float → Float → Float
-framesCost frames fixed actions n offset weight =
-    andFixed fixed (λ f. fixedCost f n offset weight) (sumFromZero (frameCount frames) (costAt frames actions n offset weight))
+use Rattle.frame_blocks.specs.Frame.{blockEntry, pulledEntry, vectorEntry}
+use Rattle.frame_blocks.specs.Steps.{Added}
+use Rattle.frame_cost.specs.Cost.{pullOf, frameAlong, frameCost, fixedCost, costAt, framesCost}
+use Rattle.frame_cost.specs.declared.Pull.{Pull}
 
 -- each frame goes where the map says, `dof` rows wide, with its block and its vector under the plane
 abbrev pub framesUnder : ℕ → List Float → List Float → List ℕ → List Float → Float → Float → Frames
@@ -119,6 +110,18 @@ module _ (order dof : ℕ) (frames actions : List Float) (map : List ℕ) where
           gradient = gradient-more all k p ep g₀ g g′ (vectorEntry x f n offset weight) (λ i li. rw (ex, ef)) (before .gradient) (a .gradient);
         }
 
+    -- without a map no frame goes anywhere
+    pub summed-unmapped : (k : ℕ) (h g : List Float) → length map ≡ 0 → Summed order dof frames actions map n offset weight k (sumFromZero k (costAt frames actions n offset weight)) h h g g
+    unfolding costAt frameCost
+    summed-unmapped zero h g e = summed-none h g
+    summed-unmapped (suc k) h g e =
+        let before = summed-unmapped k h g e in
+        let x = actionAt actions k in
+        let f = frameAt frames k in
+        let nowhere : lookup map k ≡ Unmapped = sym (lookup-past map k (omega arith)) in
+        let frame = frame-unmapped x f n offset weight order dof (lookup map k) (pullOf f (normalIn x n) (frameAlong x f n offset) weight) refl h g nowhere in
+        rw (add-one k) at (summed-more k order x f (lookup map k) _ _ h h h g g g refl refl refl refl frame before)
+
     -- all of them, and the fixed set
     pub all-added : (fixed : List Float) (count : ℕ) (s r : Float) (h h′ g g′ : List Float) → count ≡ frameCount frames → r ≡ andFixed fixed (λ f. fixedCost f n offset weight) s
         → Summed order dof frames actions map n offset weight count s h h′ g g′ → AllAdded order dof frames fixed actions map n offset weight r h h′ g g′
@@ -129,14 +132,7 @@ module _ (order dof : ℕ) (frames actions : List Float) (map : List ℕ) where
       gradient = rw e at (a .gradient);
     }
 
--- a sum with the fixed set's term, or without one
-never : {k : ℕ} → suc k ≡ 0 → ⊥
-never h = omega arith
-
-pub fixed-none : (fixed : List Float) (term : Centred → Float) (sum : Float) → length fixed ≡ 0 → sum ≡ andFixed fixed term sum
-fixed-none [] term sum h = refl
-fixed-none (x ∷ l) term sum h = absurd (never h)
-
-pub fixed-some : (fixed : List Float) (term : Centred → Float) (sum : Float) → (length fixed ≡ 0 → ⊥) → sum ⊕ term (centredOf fixed) ≡ andFixed fixed term sum
-fixed-some [] term sum h = absurd (h refl)
-fixed-some (x ∷ l) term sum h = refl
+    pub all-alone : (fixed : List Float) (count : ℕ) (s r : Float) (h g : List Float) → count ≡ frameCount frames → length map ≡ 0
+        → s ≡ sumFromZero count (costAt frames actions n offset weight) → r ≡ andFixed fixed (λ f. fixedCost f n offset weight) s
+        → AllAdded order dof frames fixed actions map n offset weight r h h g g
+    all-alone fixed count s r h g e none q p = all-added fixed count s r h h g g e p (rw q (summed-unmapped count h g none))

@@ -12,12 +12,7 @@ use Rattle.derivative.specs.Derivative.{normalRow, combined, shifted, dAn, dAlo
 use Rattle.terms.specs.Terms.{addAll, segment, block}
 use Rattle.terms.specs.Laws.{segment-same, block-same}
 use Rattle.point_moments.specs.declared.scatter.Centred.{Centred}
-use Rattle.frame_blocks.specs.Frame.{scatterOn, costOf, blockEntry, pulledEntry}
-use Rattle.frame_blocks.specs.declared.Pull.{Pull}
-
--- what a set's cost and gradient have in common
-abbrev pub pullOf : Centred → List Float → Float → Float → Pull
-pullOf f a along weight = record { turn = scatterOn f a; shift = f .count ⊗ along; cost = costOf f a along weight }
+use Rattle.frame_blocks.specs.Frame.{blockEntry, pulledEntry}
 
 -- row i of a column: ((Σ_k p_k(i)·s_k) + (m_i·t)·count)·weight
 unfoldable pub columnEntry : List Float → List Float → List Float → List Float → Float → Float → Float → Float → Float → Float → ℕ → Float

@@ -1,6 +1,5 @@
 // A frame's block and vector, worked out of rows of nine numbers and added straight to the Hessian's columns and to the gradient.
 // The loops are small and take the width as it comes: called with a literal width they are unrolled, and the rows stay in registers.
-use crate::Pull;
 use derivative::AXIS_X;
 use derivative::AXIS_Y;
 use derivative::AXIS_Z;

@@ -28,8 +28,8 @@ use Rattle.derivative.specs.Action.{actionSize}
 use Rattle.plane_fit.specs.Axis.{smallestAxis}
 use Rattle.plane_fit.specs.declared.axis.Fit.{Fit}
 use Rattle.plane_fit.specs.declared.axis.Fit.the-variants.{Plane, NoPlane}
-use Rattle.frame_blocks.specs.Frame.{weightOf}
-use Rattle.frame_blocks.specs.Frames.{framesCost, framesUnder, Ready, AllAdded}
+use Rattle.frame_cost.specs.Cost.{weightOf, framesCost}
+use Rattle.frame_blocks.specs.Frames.{framesUnder, Ready, AllAdded}
 
 -- "A call's own inputs are all that is handed to it"
 pub record FramesWork : Type 0 where

@@ -112,7 +112,7 @@ pub fn accumulate(
     let mean = plane_fit::fit_mean(frames, fixed, actions);
     match plane_fit::axis::smallest_axis(decomposition, mean) {
         Fit::Plane(a, b, c, offset) => {
-            let weight = frame_blocks::weight(sigma);
+            let weight = frame_cost::weight(sigma);
             *cost = frame_blocks::add_all(
                 hessian,
                 gradient,

@@ -1,9 +1,9 @@
--- `frame_blocks::with_fixed` meets its contract: the sum as it is, or with the fixed set's cost. Assumes nothing.
+-- `frame_cost::with_fixed` meets its contract: the sum as it is, or with the fixed set's cost. Assumes nothing.
 use mathlib.Core.Logic.{⊎-elim}
-use Rattle.frame_blocks.specs.Frame.{fixedCost}
-use Rattle.frame_blocks.specs.Frames.{fixed-none, fixed-some}
-use Rattle.frame_blocks.proofs.with_fixed.Statement.{statement}
-use Rattle.frame_blocks.proofs.with_fixed.Tie as tie
+use Rattle.frame_cost.specs.Cost.{fixedCost}
+use Rattle.frame_cost.specs.Cost.{fixed-none, fixed-some}
+use Rattle.frame_cost.proofs.with_fixed.Statement.{statement}
+use Rattle.frame_cost.proofs.with_fixed.Tie as tie
 
 returns : tie.Need-returns
 returns c =
