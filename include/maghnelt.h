@@ -149,6 +149,17 @@ uint32_t maghnelt_frames_accumulate(uint32_t dof, const double *frames, size_t f
                                     size_t map_length, double *hessian, size_t hessian_length, double *gradient,
                                     size_t gradient_length, double *cost);
 
+/*
+ * Four residuals for each frame and four for the fixed set, zeros without one; and the Jacobian with as many rows, column
+ * after column, dof columns for each frame; an empty Jacobian is not wanted. Every number is written, without a plane all
+ * zeros. decompositions has the fit's, then one for each frame's scatter, then the fixed set's if there is one. Refused by
+ * 1, 2, 3, 7 and 8.
+ */
+uint32_t maghnelt_frames_linearize(uint32_t dof, const double *frames, size_t frames_length, const double *fixed,
+                                   size_t fixed_length, double sigma, const double *actions, size_t actions_length,
+                                   const double *decompositions, size_t decompositions_length, double *residual,
+                                   size_t residual_length, double *jacobian, size_t jacobian_length);
+
 /* ---- matches on one pose: 1 to MAGHNELT_MAX_MATCHES matches of MAGHNELT_MATCH numbers, and one action ---- */
 
 /*

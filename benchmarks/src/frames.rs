@@ -24,6 +24,12 @@ pub fn measure_all() {
         measure_accumulate::<7>(&planes);
         measure_accumulate::<9>(&planes);
         measure_cost(&planes);
+        if frames < 256 {
+            measure_linearize::<3>(&planes);
+            measure_linearize::<6>(&planes);
+            measure_linearize::<7>(&planes);
+            measure_linearize::<9>(&planes);
+        }
     }
 }
 
@@ -147,6 +153,61 @@ fn measure_cost(planes: &[Plane]) {
         planes.len(),
         || _ = library(),
         || _ = rust(),
+    );
+}
+
+fn measure_linearize<const WIDTH: usize>(planes: &[Plane]) {
+    let frames = planes[0].frames.len();
+    let rows = 4 * frames + 4;
+    let none = || (vec![0.0; rows], vec![0.0; rows * frames * WIDTH]);
+    let [mut by_library, mut by_rust, mut by_root] = [none(), none(), none()];
+    let library = |(residual, jacobian): &mut (Vec<f64>, Vec<f64>)| {
+        for plane in black_box(planes) {
+            _ = slices::frames_linearize(
+                WIDTH as u32,
+                plane.frames.as_flattened(),
+                &plane.fixed,
+                SIGMA,
+                plane.actions.as_flattened(),
+                plane.decompositions.as_flattened(),
+                residual,
+                jacobian,
+            );
+        }
+    };
+    let rust = |root: fn(f64) -> f64, (residual, jacobian): &mut (Vec<f64>, Vec<f64>)| {
+        for plane in black_box(planes) {
+            plain::linearize::<WIDTH>(
+                &plane.frames,
+                Some(&plane.fixed),
+                SIGMA,
+                &plane.actions,
+                &plane.decompositions,
+                root,
+                residual,
+                jacobian,
+            );
+        }
+    };
+    library(&mut by_library);
+    rust(f64::sqrt, &mut by_rust);
+    rust(maghnelt::sqrt, &mut by_root);
+    assert_eq!(by_library, by_rust);
+    assert_eq!(by_library, by_root);
+    let case = format!("{}, dof {WIDTH}", of(planes));
+    measure(
+        "frames_linearize",
+        &case,
+        planes.len(),
+        || library(&mut by_library),
+        || rust(f64::sqrt, &mut by_rust),
+    );
+    measure(
+        "frames_linearize",
+        &format!("{case}, Rust with the library's root"),
+        planes.len(),
+        || library(&mut by_library),
+        || rust(maghnelt::sqrt, &mut by_root),
     );
 }
 
@@ -299,5 +360,70 @@ mod plain {
             cost += (spread + fixed[0] * along * along) * weight;
         }
         cost
+    }
+
+    /// The rows of a root of a scatter.
+    #[inline(always)]
+    fn rows_of(decomposition: &Decomposition, root: fn(f64) -> f64) -> [[f64; 3]; 3] {
+        std::array::from_fn(|k| {
+            let scale = if decomposition[k] > 0.0 {
+                root(decomposition[k])
+            } else {
+                0.0
+            };
+            three(decomposition, 3 + 3 * k).map(|x| x * scale)
+        })
+    }
+
+    #[allow(clippy::too_many_arguments)]
+    #[inline(never)]
+    pub fn linearize<const WIDTH: usize>(
+        frames: &[Frame],
+        fixed: Option<&Frame>,
+        sigma: f64,
+        actions: &[Action],
+        decompositions: &[Decomposition],
+        root: fn(f64) -> f64,
+        residual: &mut [f64],
+        jacobian: &mut [f64],
+    ) {
+        jacobian.fill(0.0);
+        let Some((n, offset)) = fit(frames, fixed, actions, &decompositions[0]) else {
+            residual.fill(0.0);
+            return;
+        };
+        let information = 1.0 / sigma;
+        let rows = residual.len();
+        for (f, (frame, a)) in frames.iter().zip(actions).enumerate() {
+            let root_rows = rows_of(&decompositions[1 + f], root);
+            let root_n = root(frame[0]);
+            let a_n = std::array::from_fn(|c| dot(three(a, 3 * c), n));
+            let along = dot(n, centre(a, frame)) + offset;
+            for k in 0..3 {
+                residual[4 * f + k] = dot(root_rows[k], a_n) * information;
+            }
+            residual[4 * f + 3] = root_n * along * information;
+            let (d, m) = derivatives::<WIDTH>(a, n, three(frame, MEAN));
+            for c in 0..WIDTH {
+                let cells = &mut jacobian[(f * WIDTH + c) * rows + 4 * f..][..4];
+                let column = [d[0][c], d[1][c], d[2][c]];
+                for k in 0..3 {
+                    cells[k] = dot(root_rows[k], column) * information;
+                }
+                cells[3] = root_n * m[c] * information;
+            }
+        }
+        let last = 4 * frames.len();
+        match fixed {
+            Some(fixed) => {
+                let root_rows = rows_of(&decompositions[1 + frames.len()], root);
+                for k in 0..3 {
+                    residual[last + k] = dot(root_rows[k], n) * information;
+                }
+                let along = dot(n, three(fixed, MEAN)) + offset;
+                residual[last + 3] = root(fixed[0]) * along * information;
+            }
+            None => residual[last..].fill(0.0),
+        }
     }
 }

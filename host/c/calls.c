@@ -168,12 +168,14 @@ static void frame_factor(void) {
     const double frames[MAGHNELT_CENTRED] = {4, 1, 1, 0, 4, 0, 0, 0, 4, 0, 0, 0, 0};
     const double none[1] = {0};
     double actions[MAGHNELT_ACTION] = {1, 0, 0, 0, 1, 0, 0, 0, 1, 0, 0, 0, 3};
-    double decompositions[MAGHNELT_DECOMPOSITION] = {0, 1, 2, 1, 0, 0, 0, 1, 0, 0, 0, 1};
+    double decompositions[2 * MAGHNELT_DECOMPOSITION] = {0, 1, 2, 1, 0, 0, 0, 1, 0, 0, 0, 1, 4, 4, 0, 1, 0, 0, 0, 1, 0, 0, 0, 1};
     const uint32_t map[] = {0};
     const uint32_t bad[] = {0, MAGHNELT_UNMAPPED + 1};
     double hessian[1] = {0};
     double gradient[1] = {0};
     double cost = 7;
+    double residual[8];
+    double jacobian[8];
 
     actions[39] = 1;
     expect(maghnelt_frames_accumulate(1, SLICE(frames), none, 0, 0.5, SLICE(actions), decompositions, MAGHNELT_DECOMPOSITION,
@@ -184,11 +186,20 @@ static void frame_factor(void) {
                                       SLICE(map), SLICE(hessian), SLICE(gradient), &cost) == 0 &&
                cost == 16 && hessian[0] == 272 && gradient[0] == 16,
            "a frame costs, and its block and vector are added");
+    expect(maghnelt_frames_linearize(1, SLICE(frames), none, 0, 0.5, SLICE(actions), SLICE(decompositions), SLICE(residual),
+                                     SLICE(jacobian)) == 0,
+           "residuals and their derivatives");
+    expect(residual[0] == 4 && residual[1] == 0 && residual[3] == 0 && residual[4] == 0 && residual[7] == 0, "residuals");
+    expect(jacobian[0] == 4 && jacobian[1] == 0 && jacobian[3] == 16 && jacobian[4] == 0, "derivatives");
     decompositions[0] = 1;
     expect(maghnelt_frames_accumulate(1, SLICE(frames), none, 0, 0.5, SLICE(actions), decompositions, MAGHNELT_DECOMPOSITION,
                                       SLICE(map), SLICE(hessian), SLICE(gradient), &cost) == 0 &&
                cost == 0 && hessian[0] == 272,
            "without a plane nothing is added");
+    expect(maghnelt_frames_linearize(1, SLICE(frames), none, 0, 0.5, SLICE(actions), SLICE(decompositions), SLICE(residual),
+                                     jacobian, 0) == 0 &&
+               residual[0] == 0 && jacobian[0] == 4,
+           "without a plane all residuals are zeros");
 }
 
 /* Two matches with the plane x = 0, on a pose that one parameter moves along x. */

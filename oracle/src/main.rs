@@ -2,9 +2,9 @@
 
 use oracle::generator::Generator;
 use oracle::groups::{
-    frames_accumulate, frames_build, frames_fit, lists, match_linearize, matches_accumulate,
-    matches_linearize, moments, moments_plane, number, order, plane_new, remap, root_steps,
-    scatter, sigma, sqrt,
+    frames_accumulate, frames_build, frames_fit, frames_linearize, lists, match_linearize,
+    matches_accumulate, matches_linearize, moments, moments_plane, number, order, plane_new, remap,
+    root_steps, scatter, sigma, sqrt,
 };
 use oracle::report::Report;
 use std::process::ExitCode;
@@ -80,6 +80,11 @@ const GROUPS: &[Group] = &[
         name: "frames_accumulate",
         about: "normal equations of frames against a model",
         run: frames_accumulate::run,
+    },
+    Group {
+        name: "frames_linearize",
+        about: "residuals and derivatives of frames against a model",
+        run: frames_linearize::run,
     },
     Group {
         name: "matches_accumulate",

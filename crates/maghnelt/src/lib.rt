@@ -12,6 +12,7 @@ ghost use Rattle.plane_fit.specs.Fit.{fitList};
 ghost use Rattle.plane_fit.specs.Calls.{fitRefusal};
 ghost use Rattle.plane_moments.specs.Build.{Builds};
 ghost use Rattle.plane_moments.specs.Accumulate.{framesCall, work};
+ghost use Rattle.plane_moments.specs.Linearize.{Linearizes};
 ghost use Rattle.call_lists.specs.Accumulated.{Accumulated};
 ghost use Rattle.map_planes.specs.Accumulate.{matchesCall};
 ghost use Rattle.map_planes.specs.Linearize.{Linearized};
@@ -202,6 +203,32 @@ pub extern "C" fn maghnelt_frames_accumulate(
         hessian,
         gradient,
         cost,
+    )
+}
+
+// Four residuals for each frame and the fixed set, and their Jacobian by columns.
+#[no_mangle]
+pub extern "C" fn maghnelt_frames_linearize(
+    dof: u32,
+    frames: &[f64],
+    fixed: &[f64],
+    sigma: f64,
+    actions: &[f64],
+    decompositions: &[u64],
+    residual: &mut [f64],
+    jacobian: &mut [f64],
+) -> u32
+    ensures { λ r. ⌜ Linearizes dof (now (frames .entry)) (now (fixed .entry)) sigma (now (actions .entry)) (now (decompositions .entry)) (now (residual .entry)) (now (jacobian .entry)) r (now (residual .exit)) (now (jacobian .exit)) ⌝ }
+{
+    plane_moments::linearize::linearize(
+        dof,
+        frames,
+        fixed,
+        sigma,
+        actions,
+        decompositions,
+        residual,
+        jacobian,
     )
 }
 

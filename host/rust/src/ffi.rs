@@ -127,6 +127,22 @@ extern "C" {
         gradient_length: usize,
         cost: *mut f64,
     ) -> u32;
+    pub(crate) fn maghnelt_frames_linearize(
+        dof: u32,
+        frames: *const f64,
+        frames_length: usize,
+        fixed: *const f64,
+        fixed_length: usize,
+        sigma: f64,
+        actions: *const f64,
+        actions_length: usize,
+        decompositions: *const f64,
+        decompositions_length: usize,
+        residual: *mut f64,
+        residual_length: usize,
+        jacobian: *mut f64,
+        jacobian_length: usize,
+    ) -> u32;
 
     pub(crate) fn maghnelt_matches_accumulate(
         dof: u32,

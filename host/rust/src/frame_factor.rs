@@ -1,8 +1,8 @@
 //! The factor of one plane over several frames.
 
 use crate::{
-    frames_fit, slices, Action, BlockMap, Centred, Decomposition, FitSums, Moments,
-    NormalEquations, Refusal, CENTRED, MOMENTS,
+    frames_fit, slices, Action, BlockMap, Centred, Decomposition, FitSums, Linearized, Moments,
+    NormalEquations, Refusal, CENTRED, DECOMPOSITION, MOMENTS,
 };
 
 /// One plane over several frames: the moments that each frame saw of it, tested and centred once, and evaluated at many
@@ -164,6 +164,40 @@ impl FrameFactor {
     pub fn cost(&self, actions: &[Action], decomposition: &Decomposition) -> Result<f64, Refusal> {
         let mut none = NormalEquations::zeros(0);
         self.accumulate(actions, decomposition, &BlockMap::NOT_WANTED, &mut none)
+    }
+
+    /// Four residuals for each frame and four for the fixed set, zeros without one, and the Jacobian, of dof columns for each
+    /// frame: the rows whose squares and products [`accumulate`](FrameFactor::accumulate) sums up. Beside the decomposition
+    /// of what [`fit`](FrameFactor::fit) gave come those of each frame's [scatter](Centred::scatter) and of the fixed set's.
+    /// Without a plane all are zeros.
+    ///
+    /// # Errors
+    ///
+    /// [`Refusal::LENGTH`] if `of_frames` has not one for each frame, or there is a fixed set and no `of_fixed`, or the other
+    /// way round; [`Refusal::ACTIONS`] if the actions are not as many as the frames.
+    pub fn linearize(
+        &self,
+        actions: &[Action],
+        of_fit: &Decomposition,
+        of_frames: &[Decomposition],
+        of_fixed: Option<&Decomposition>,
+    ) -> Result<Linearized, Refusal> {
+        let all = [of_fit].into_iter().chain(of_frames).chain(of_fixed);
+        let decompositions: Vec<[f64; DECOMPOSITION]> = all.map(Decomposition::record).collect();
+        let rows = 4 * self.frames.len() + 4;
+        let mut out = Linearized::zeros(rows, self.frames.len() * self.dof as usize);
+        let (residual, jacobian) = out.parts_mut();
+        slices::frames_linearize(
+            self.dof,
+            Centred::flattened(&self.frames),
+            Centred::optional(self.fixed.as_ref()),
+            self.sigma,
+            Action::flattened(actions),
+            decompositions.as_flattened(),
+            residual,
+            jacobian,
+        )?;
+        Ok(out)
     }
 
     /// The number of the parameters of each frame's state.

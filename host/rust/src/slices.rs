@@ -345,6 +345,47 @@ pub fn frames_accumulate(
     })
 }
 
+/// Writes four residuals for each frame and four for the fixed set and, if `jacobian` is not empty, their derivatives: as many
+/// rows, and `dof` columns for each frame, column after column. Without a plane they are all zeros. `decompositions` has the
+/// fit's, then one for each frame's scatter, then the fixed set's if there is one.
+///
+/// # Errors
+///
+/// [`Refusal::DOF`]; [`Refusal::EMPTY_LIST`]; [`Refusal::LENGTH`]: as in [`frames_fit`], or `decompositions`, `residual` or
+/// `jacobian` has another length; then [`Refusal::SIGMA`] and [`Refusal::ACTIONS`].
+#[allow(clippy::too_many_arguments)]
+#[inline]
+pub fn frames_linearize(
+    dof: u32,
+    frames: &[f64],
+    fixed: &[f64],
+    sigma: f64,
+    actions: &[f64],
+    decompositions: &[f64],
+    residual: &mut [f64],
+    jacobian: &mut [f64],
+) -> Result<(), Refusal> {
+    // SAFETY: as said at the head of this file.
+    Refusal::of_answer(unsafe {
+        ffi::maghnelt_frames_linearize(
+            dof,
+            frames.as_ptr(),
+            frames.len(),
+            fixed.as_ptr(),
+            fixed.len(),
+            sigma,
+            actions.as_ptr(),
+            actions.len(),
+            decompositions.as_ptr(),
+            decompositions.len(),
+            residual.as_mut_ptr(),
+            residual.len(),
+            jacobian.as_mut_ptr(),
+            jacobian.len(),
+        )
+    })
+}
+
 /// Adds the normal equations of a list of matches to `hessian`, column after column, and `gradient`, at the offset that word
 /// 0 of `map` gives, and writes their cost. Where nothing but the cost is wanted, `map`, `hessian` and `gradient` are empty.
 ///

@@ -159,6 +159,13 @@ fn a_case_in_whole_numbers() {
     assert_eq!(normal.columns(), [1.0, 1.0, 1.0, 273.0]);
     assert_eq!(normal.gradient(), [0.0, 16.0]);
     assert_eq!(factor.cost(&[stretching()], &fit), Ok(16.0));
+
+    let of_frame = with_values([4.0, 4.0, 0.0]);
+    let rows = factor
+        .linearize(&[stretching()], &fit, &[of_frame], None)
+        .unwrap();
+    assert_eq!(rows.residual(), [4.0, 0.0, 0.0, 0.0, 0.0, 0.0, 0.0, 0.0]);
+    assert_eq!(rows.columns(), [4.0, 0.0, 0.0, 16.0, 0.0, 0.0, 0.0, 0.0]);
 }
 
 #[test]
@@ -181,6 +188,11 @@ fn a_fixed_set_only_costs() {
     let cost = factor.accumulate(&[stretching()], &fit, &at(&[0]), &mut normal);
     assert_eq!(cost, Ok(32.0));
     assert_eq!(normal.columns(), [272.0]);
+    let of_set = with_values([4.0, 4.0, 0.0]);
+    let rows = factor
+        .linearize(&[stretching()], &fit, &[of_set], Some(&of_set))
+        .unwrap();
+    assert_eq!(rows.residual(), [4.0, 0.0, 0.0, 0.0, 4.0, 0.0, 0.0, 0.0]);
 }
 
 #[test]
@@ -220,9 +232,28 @@ fn without_a_plane_nothing_is_added() {
         let cost = factor.accumulate(&[stretching()], &fit, &at(&[0]), &mut normal);
         assert_eq!(cost.map(f64::to_bits), Ok(0));
         assert_eq!(normal.columns()[0].to_bits(), (-0.0f64).to_bits());
+        let rows = factor
+            .linearize(&[stretching()], &fit, &[with_values([4.0; 3])], None)
+            .unwrap();
+        let numbers = rows.residual().iter().chain(rows.columns());
+        assert!(numbers.into_iter().all(|x| x.to_bits() == 0));
         // A segment that does not fit is refused all the same.
         let refused = factor.accumulate(&[stretching()], &fit, &at(&[1]), &mut normal);
         assert_eq!(refused, Err(Refusal::SEGMENT));
+    }
+}
+
+#[test]
+fn roots_of_what_is_not_above_0_are_0() {
+    let factor = FrameFactor::new(0, &[square()], None, 1.0).unwrap();
+    let fit = with_values([0.0, 1.0, 2.0]);
+    for value in [-0.0, -4.0, f64::NAN, f64::NEG_INFINITY] {
+        let of_frame = with_values([value, 4.0, 0.0]);
+        let rows = factor
+            .linearize(&[stretching()], &fit, &[of_frame], None)
+            .unwrap();
+        assert_eq!(rows.residual()[0].to_bits(), 0);
+        assert!(rows.columns().is_empty());
     }
 }
 
@@ -243,4 +274,11 @@ fn calls_that_are_refused() {
     // The third word is no frame's.
     assert!(accumulate(&states[..2], &at(&[0, 0, 1])).is_ok());
     assert_ne!(normal, before);
+    let linearize = |of_frames: usize, of_fixed: Option<&Decomposition>| {
+        factor.linearize(&states[..2], &fit, &[fit; 3][..of_frames], of_fixed)
+    };
+    assert!(linearize(2, None).is_ok());
+    assert_eq!(linearize(1, None), Err(Refusal::LENGTH));
+    assert_eq!(linearize(3, None), Err(Refusal::LENGTH));
+    assert_eq!(linearize(2, Some(&fit)), Err(Refusal::LENGTH));
 }

@@ -477,3 +477,56 @@ fn accumulated_frames() {
     assert_eq!(call(2, 1.0, right, &[0, 2], [3, 9]), Err(Refusal::SEGMENT));
     assert_eq!(call(2, 1.0, right, &[0], [0, 0]), Err(Refusal::SEGMENT));
 }
+
+#[test]
+fn linearized_frames() {
+    let ones = vec![1.0; (MAX_FRAMES + 1) * ACTION];
+    let call = |dof: u32, sigma: f64, lengths: [usize; 6]| {
+        let [frames, fixed, actions, decompositions, of_residual, of_jacobian] = lengths;
+        let (mut residual, mut jacobian) = (patterns(of_residual), patterns(of_jacobian));
+        let answer = slices::frames_linearize(
+            dof,
+            &ones[..frames],
+            &ones[..fixed],
+            sigma,
+            &ones[..actions],
+            // Without a plane.
+            &ones[..decompositions],
+            &mut residual,
+            &mut jacobian,
+        );
+        match answer {
+            Ok(()) => assert!(residual.iter().chain(&jacobian).all(|x| x.to_bits() == 0)),
+            Err(_) => {
+                assert_eq!(bits(&residual), bits(&patterns(of_residual)));
+                assert_eq!(bits(&jacobian), bits(&patterns(of_jacobian)));
+            }
+        }
+        answer
+    };
+    let two = 2 * ACTION;
+    for (lengths, expected) in [
+        ([26, 0, two, 36, 12, 48], Ok(())),
+        ([26, 13, two, 48, 12, 48], Ok(())),
+        ([26, 13, two, 48, 12, 0], Ok(())),
+        ([0, 0, 0, 0, 0, 0], Err(Refusal::EMPTY_LIST)),
+        ([27, 0, 0, 36, 12, 48], Err(Refusal::LENGTH)),
+        ([26, 1, 0, 48, 12, 48], Err(Refusal::LENGTH)),
+        ([26, 0, 0, 48, 12, 48], Err(Refusal::LENGTH)),
+        ([26, 13, 0, 36, 12, 48], Err(Refusal::LENGTH)),
+        ([26, 0, 0, 36, 8, 48], Err(Refusal::LENGTH)),
+        ([26, 0, 0, 36, 12, 47], Err(Refusal::LENGTH)),
+        ([26, 0, 0, 36, 12, 12], Err(Refusal::LENGTH)),
+        ([26, 0, 0, 36, 12, 48], Err(Refusal::ACTIONS)),
+        ([26, 0, ACTION, 36, 12, 48], Err(Refusal::ACTIONS)),
+    ] {
+        assert_eq!(call(2, 1.0, lengths), expected, "{lengths:?}");
+        let before_sigma = [Err(Refusal::EMPTY_LIST), Err(Refusal::LENGTH)];
+        if !before_sigma.contains(&expected) {
+            assert_eq!(call(2, f64::NAN, lengths), Err(Refusal::SIGMA));
+        }
+        assert_eq!(call(10, f64::NAN, lengths), Err(Refusal::DOF));
+    }
+    assert_eq!(call(0, 1.0, [26, 0, two, 36, 12, 0]), Ok(()));
+    assert_eq!(call(0, 1.0, [26, 0, two, 36, 12, 1]), Err(Refusal::LENGTH));
+}

@@ -6,6 +6,7 @@
 pub mod frames_accumulate;
 pub mod frames_build;
 pub mod frames_fit;
+pub mod frames_linearize;
 pub mod lists;
 pub mod match_linearize;
 pub mod matches_accumulate;
