@@ -5,14 +5,13 @@ ghost use mathlib.Core.Bool.{false};
 ghost use lib.ListN.{length, set};
 ghost use Rattle.refusals.specs.Refusal.{firstOf};
 ghost use Rattle.sums.specs.Sum.{grid};
-ghost use Rattle.lists.specs.Part.{_!_};
 ghost use Rattle.derivative.specs.Action.{actionSize};
 ghost use Rattle.terms.specs.Terms.{addAll};
 ghost use Rattle.normal_blocks.specs.Map.{lookup, exceeds};
 ghost use Rattle.normal_blocks.specs.Target.{hessianAt, gradientAt};
 ghost use Rattle.map_plane.specs.Match.{MATCH};
 ghost use Rattle.match_rows.specs.Row.{residualAt, rowAt};
-ghost use Rattle.match_rows.specs.ByRows.{byRows};
+ghost use Rattle.match_rows.specs.ByRows.{byRows, rowBy};
 ghost use Rattle.match_sums.specs.Groups.{matchCount, listCost, listBlock, listVector};
 ghost use Rattle.call_lists.specs.Accumulated.{Accumulated};
 ghost use Rattle.map_planes.specs.Calls.{badMatches, listReasons, matchesRefusal};
@@ -149,55 +148,76 @@ fn bad_outputs(n: usize, width: usize, residuals: usize, cells: usize) -> bool
     cells != width * n
 }
 
-// The first `width` numbers of a row into row k of a matrix of n rows.
-fn place_row(row: &[f64; 9], k: usize, n: usize, width: usize, out: &mut [f64])
-    requires { ⌜ (width ≤ 9) × (k < n) × (width * n ≤ length (now out)) ⌝ }
-    ensures { λ _. ⌜ Placed n width k (λ c. now (row .entry) ! c) (now (out .entry)) (now (out .exit)) ⌝ }
+// The first `width` numbers of a match's row into row k of a matrix of so many rows. `t` is the action by rows.
+fn place_row(
+    t: &[f64; 108],
+    s: [f64; 3],
+    n: [f64; 3],
+    info: f64,
+    k: usize,
+    rows: usize,
+    width: usize,
+    out: &mut [f64],
+)
+    requires { ⌜ (width ≤ 9) × (k < rows) × (width * rows ≤ length (now out)) ⌝ }
+    ensures { λ _. ⌜ Placed rows width k (rowBy (now (t .entry)) s n info) (now (out .entry)) (now (out .exit)) ⌝ }
 {
     let mut c = 0;
     while c < width {
-        out[c * n + k] = row[c];
+        out[c * rows + k] = match_rows::entry(t, s, n, info, c);
         c += 1;
     }
 }
 
 // The same, with a copy of the code for each width.
-fn place_by(row: &[f64; 9], k: usize, n: usize, dof: usize, out: &mut [f64])
-    requires { ⌜ (dof ≤ 9) × (k < n) × (dof * n ≤ length (now out)) ⌝ }
-    ensures { λ _. ⌜ Placed n dof k (λ c. now (row .entry) ! c) (now (out .entry)) (now (out .exit)) ⌝ }
+fn place_by(
+    t: &[f64; 108],
+    s: [f64; 3],
+    n: [f64; 3],
+    info: f64,
+    k: usize,
+    rows: usize,
+    dof: usize,
+    out: &mut [f64],
+)
+    requires { ⌜ (dof ≤ 9) × (k < rows) × (dof * rows ≤ length (now out)) ⌝ }
+    ensures { λ _. ⌜ Placed rows dof k (rowBy (now (t .entry)) s n info) (now (out .entry)) (now (out .exit)) ⌝ }
 {
     match dof {
-        0 => place_row(row, k, n, 0, out),
-        1 => place_row(row, k, n, 1, out),
-        2 => place_row(row, k, n, 2, out),
-        3 => place_row(row, k, n, 3, out),
-        4 => place_row(row, k, n, 4, out),
-        5 => place_row(row, k, n, 5, out),
-        6 => place_row(row, k, n, 6, out),
-        7 => place_row(row, k, n, 7, out),
-        8 => place_row(row, k, n, 8, out),
-        9 => place_row(row, k, n, 9, out),
-        _ => place_row(row, k, n, dof, out),
+        0 => place_row(t, s, n, info, k, rows, 0, out),
+        1 => place_row(t, s, n, info, k, rows, 1, out),
+        2 => place_row(t, s, n, info, k, rows, 2, out),
+        3 => place_row(t, s, n, info, k, rows, 3, out),
+        4 => place_row(t, s, n, info, k, rows, 4, out),
+        5 => place_row(t, s, n, info, k, rows, 5, out),
+        6 => place_row(t, s, n, info, k, rows, 6, out),
+        7 => place_row(t, s, n, info, k, rows, 7, out),
+        8 => place_row(t, s, n, info, k, rows, 8, out),
+        9 => place_row(t, s, n, info, k, rows, 9, out),
+        _ => place_row(t, s, n, info, k, rows, dof, out),
     }
 }
 
-// Match k of n: its residual, and its row in the Jacobian. `t` is the action by rows.
+// Match k of so many: its residual, and its row in the Jacobian.
 fn write_match(
     list: &[f64],
     k: usize,
-    n: usize,
+    rows: usize,
     x: &[f64],
     t: &[f64; 108],
     dof: usize,
     residual: &mut [f64],
     jacobian: &mut [f64],
 )
-    requires { ⌜ (k < n) × (n * MATCH ≤ length (now list)) × (length (now x) ≡ actionSize) × (now t ≡ byRows (now x)) × (dof ≤ 9) × (length (now residual) ≡ n) × (dof * n ≤ length (now jacobian)) ⌝ }
-    ensures { λ _. ⌜ (now (residual .exit) ≡ set (now (residual .entry)) k (residualAt (now (x .entry)) (now (list .entry)) k)) × Placed n dof k (rowAt (now (x .entry)) (now (list .entry)) k) (now (jacobian .entry)) (now (jacobian .exit)) ⌝ }
+    requires { ⌜ (k < rows) × (rows * MATCH ≤ length (now list)) × (length (now x) ≡ actionSize) × (now t ≡ byRows (now x)) × (dof ≤ 9) × (length (now residual) ≡ rows) × (dof * rows ≤ length (now jacobian)) ⌝ }
+    ensures { λ _. ⌜ (now (residual .exit) ≡ set (now (residual .entry)) k (residualAt (now (x .entry)) (now (list .entry)) k)) × Placed rows dof k (rowAt (now (x .entry)) (now (list .entry)) k) (now (jacobian .entry)) (now (jacobian .exit)) ⌝ }
 {
-    let mut row = [0.0; 9];
-    residual[k] = match_rows::residual_and_row(list, k, x, t, dof, &mut row);
-    place_by(&row, k, n, dof, jacobian);
+    let at = k * MATCH;
+    let s = [list[at], list[at + 1], list[at + 2]];
+    let n = [list[at + 3], list[at + 4], list[at + 5]];
+    let info = 1.0 / list[at + 7];
+    residual[k] = match_rows::residual(x, s, n, list[at + 6], info);
+    place_by(t, s, n, info, k, rows, dof, jacobian);
 }
 
 // Residuals and Jacobian.

@@ -10,7 +10,7 @@ ghost use Rattle.match_rows.specs.ByRows.{byRows, rowBy};
 use map_plane::MATCH;
 
 // The distance from the plane of the point that the action carries into the site, times information.
-fn residual(x: &[f64], s: [f64; 3], n: [f64; 3], d: f64, info: f64) -> f64
+pub fn residual(x: &[f64], s: [f64; 3], n: [f64; 3], d: f64, info: f64) -> f64
     requires { ⌜ length (now x) ≡ actionSize ⌝ }
     ensures { λ r. ⌜ r ≡ residualOf (now (x .entry)) s n d info ⌝ }
 {
@@ -39,7 +39,8 @@ pub fn by_rows(x: &[f64]) -> [f64; 108]
     t
 }
 
-fn entry(t: &[f64; 108], s: [f64; 3], n: [f64; 3], info: f64, c: usize) -> f64
+// Entry c of a match's row.
+pub fn entry(t: &[f64; 108], s: [f64; 3], n: [f64; 3], info: f64, c: usize) -> f64
     requires { ⌜ c < 9 ⌝ }
     ensures { λ r. ⌜ r ≡ rowBy (now (t .entry)) s n info c ⌝ }
 {
