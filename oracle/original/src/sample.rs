@@ -23,17 +23,10 @@ const PATTERNS: usize = 60;
 const JOBS_DRAWN: u64 = 30_000;
 const STATES: u64 = 2;
 
-/// How many calls of a kind are taken: fewer where they are long.
-fn taken_of(case: &Case) -> usize {
-    match case.call.name {
-        _ if case.kind.starts_with("refused by") => 1,
-        name if name.starts_with("moments") || name.starts_with("plane") => 30,
-        "point_to_plane_sigma" => 20,
-        "frames_accumulate" | "frames_linearize" | "remap" => 2,
-        "frames_build" | "match_linearize" => 12,
-        _ => 4,
-    }
-}
+/// Of a kind one call is taken at least, whatever it takes to store; and so many where it takes few units, as its lists are
+/// mostly those of other calls.
+const TAKEN: usize = 12;
+const FEW: usize = 64;
 
 /// A case's kind in the sample: of whatever group.
 fn key(case: &Case) -> String {
@@ -153,7 +146,7 @@ fn is_fit(case: &Case) -> bool {
     };
     let room = |place: usize| match case.call.parameters[place] {
         _ if is_pattern(case, place) => PATTERNS,
-        "hessian" | "jacobian" => 100,
+        "hessian" | "jacobian" => 64,
         "matches" if std::ptr::eq(case.call, &MATCHES_ACCUMULATE) => LONGEST,
         _ => LONG,
     };
@@ -180,12 +173,13 @@ pub fn sample(seed: u64) -> (Vec<u8>, usize) {
             let mut cases = Vec::new();
             (job.run)(&mut Generator::new(seeds.bits()), &mut cases);
             for case in cases.iter().filter(|case| is_fit(case)) {
-                let (key, most) = match is_long(case) {
-                    true => ("long".to_string(), 1),
-                    false => (key(case), taken_of(case)),
+                let key = if is_long(case) {
+                    "long".to_string()
+                } else {
+                    key(case)
                 };
                 let number = taken.entry(key).or_default();
-                if *number < most {
+                if *number == 0 || *number < TAKEN && needed(case, &lists) <= FEW {
                     *number += 1;
                     stored.push(store(case, outputs, &mut lists));
                 }
@@ -193,6 +187,26 @@ pub fn sample(seed: u64) -> (Vec<u8>, usize) {
         }
     }
     (bytes(&stored, &lists), stored.len())
+}
+
+/// How many units a case's lists take that are not stored yet.
+fn needed(case: &Case, lists: &Lists) -> usize {
+    let places = 0..case.before.len();
+    let of_numbers = places
+        .clone()
+        .filter_map(|place| numbers(case, place))
+        .flatten();
+    let mut units: Vec<Vec<u32>> = of_numbers
+        .filter(|numbers| *numbers != old(numbers.len()))
+        .map(|numbers| units_of(&numbers))
+        .collect();
+    units.extend(places.filter_map(|place| words(case, place)).flatten());
+    units.sort();
+    units.dedup();
+    let new = units
+        .iter()
+        .filter(|units| !lists.places.contains_key(*units));
+    new.map(Vec::len).sum()
 }
 
 fn store(case: &Case, outputs: usize, lists: &mut Lists) -> Stored {

@@ -27,8 +27,12 @@ impl Temper {
         let mut numbers = vec![0.0; length];
         match self {
             Temper::Zeros => {
-                let list = [0.0, -0.0, 0.0, -0.0, -0.0, 1.0, -1.0];
-                numbers.fill_with(|| generator.pick(&list));
+                let list: &[f64] = generator.pick(&[
+                    &[0.0, 0.0, 1.0],
+                    &[-0.0, -0.0, -1.0],
+                    &[0.0, -0.0, 1.0, -1.0],
+                ]);
+                numbers.fill_with(|| generator.pick(list));
             }
             // Of one size each, some special among them.
             _ => draws::fill(&mut numbers, generator),

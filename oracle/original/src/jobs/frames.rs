@@ -229,7 +229,7 @@ fn spoil(
 }
 
 impl<G: Tried> Built<G> {
-    /// The factor that was built or, for every third hostile job, one of centred sets that no build makes.
+    /// The factor that was built or, for zeros and for every third hostile job, one of centred sets that no build makes.
     fn drawn(
         (factor, states, sigma): (LidarPlaneMomentFactor<G>, Vec<Vec<f64>>, f64),
         temper: Temper,
@@ -237,9 +237,17 @@ impl<G: Tried> Built<G> {
     ) -> Self {
         let mut factor = factor;
         let mut label = format!("{temper:?}");
-        if temper != Temper::Met && generator.below(3) == 0 {
+        let any_sets = match temper {
+            Temper::Met => false,
+            Temper::Hostile => generator.below(3) == 0,
+            Temper::Zeros => true,
+        };
+        if any_sets {
             let mut set = || -> CentredNumbers {
-                let drawn = temper.any(13, generator);
+                let drawn = match temper {
+                    Temper::Zeros => any_set(temper, generator),
+                    _ => temper.any(13, generator),
+                };
                 std::array::from_fn(|place| drawn[place])
             };
             let sets: Vec<CentredNumbers> = states.iter().map(|_| set()).collect();

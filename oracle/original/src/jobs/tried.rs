@@ -87,7 +87,11 @@ impl<const D: usize> Tried for Affine<D> {
             Temper::Met => (0..Self::PARAMS)
                 .map(|_| within(-2.0, 2.0, generator))
                 .collect(),
-            _ => temper.any(Self::PARAMS, generator),
+            // The shift that the others are added to has signs of its own.
+            _ => {
+                let [a, b, columns] = [9, 3, 12 * D].map(|length| temper.any(length, generator));
+                [a, b, columns].concat()
+            }
         }
     }
 }
