@@ -35,32 +35,32 @@ put-four-requires c κs =
     let s = c .before .before .before .before .before .before .before .before .before .before .before .before .before .before .before .before in
     omega (arith, s .pre .0, s .pre .1 .residual-whole)
 
-mul-put-columns : tie.Need-mul-put-columns
-mul-put-columns c =
+mul-put-block : tie.Need-mul-put-block
+mul-put-block c =
     let s = c .before .before .before .before .before .before .before .before .before .before .before .before .before .before .before .before .before .before .before .before in
     let a = s .args in
     omega (arith, room-starts (a .frames .now) (a .actions .now) (a .ds .now) (length (a .residual .now)) (length (a .jacobian .now)) (a .width) (s .pre .1) (a .k) (s .pre .0), room-narrow (a .frames .now) (a .actions .now) (a .ds .now) (length (a .residual .now)) (length (a .jacobian .now)) (a .width) (s .pre .1) (a .k) (s .pre .0))
 
-mul-put-columns-2 : tie.Need-mul-put-columns-2
-mul-put-columns-2 c =
+mul-put-block-2 : tie.Need-mul-put-block-2
+mul-put-block-2 c =
     let s = c .before .before .before .before .before .before .before .before .before .before .before .before .before .before .before .before .before .before .before .before in
     let a = s .args in
     omega (arith, room-starts (a .frames .now) (a .actions .now) (a .ds .now) (length (a .residual .now)) (length (a .jacobian .now)) (a .width) (s .pre .1) (a .k) (s .pre .0))
 
-mul-put-columns-3 : tie.Need-mul-put-columns-3
-mul-put-columns-3 c =
+mul-put-block-3 : tie.Need-mul-put-block-3
+mul-put-block-3 c =
     let s = c .before .before .before .before .before .before .before .before .before .before .before .before .before .before .before .before .before .before .before .before in
     let a = s .args in
     omega (arith, s .pre .0, s .pre .1 .residual-whole)
 
-add-put-columns : tie.Need-add-put-columns
-add-put-columns c =
+add-put-block : tie.Need-add-put-block
+add-put-block c =
     let s = c .before .before .before .before .before .before .before .before .before .before .before .before .before .before .before .before .before .before .before .before in
     let a = s .args in
     omega (arith, room-starts (a .frames .now) (a .actions .now) (a .ds .now) (length (a .residual .now)) (length (a .jacobian .now)) (a .width) (s .pre .1) (a .k) (s .pre .0), s .pre .0, s .pre .1 .residual-whole)
 
-put-columns-requires : tie.Need-put-columns-requires
-put-columns-requires c κs =
+put-block-requires : tie.Need-put-block-requires
+put-block-requires c κs =
     let w = c .before .before .before .before .before .before .before .before in
     let m = w .before in
     let s = m .before .before .before .before .before .before .before .before .before .before .before in
@@ -84,7 +84,7 @@ returns c =
     let set = f .from-list .ensures ∙ ap centredOf (g .frame .ensures) in
     record {
       residual-is = p .put-four .ensures ∙ frame-four (a .frames .now) (a .actions .now) (a .ds .now) (a .n) (a .info) (a .k) (f .from-list .result) _ _ (o .of .result) set (x .record-at .ensures) (d .decomposition-at .ensures) (o .of .ensures) (a .offset) _ _ (l .along .result) _ _ _ (i .normal-in .ensures) (w .carried .ensures) (l .along .ensures) (r .rows .ensures);
-      jacobian-is = u .put-columns .ensures ∙ block-four (a .frames .now) (a .actions .now) (a .ds .now) (a .n) (a .info) (a .k) (f .from-list .result) _ _ (o .of .result) set (x .record-at .ensures) (d .decomposition-at .ensures) (o .of .ensures) _ _ _ _;
+      jacobian-is = u .put-block .ensures ∙ block-four (a .frames .now) (a .actions .now) (a .ds .now) (a .n) (a .info) (a .k) (f .from-list .result) _ _ (o .of .result) set (x .record-at .ensures) (d .decomposition-at .ensures) (o .of .ensures) _ _ _ _;
     }
 
 pub write-frame-spec : {M : Type 1} → statement M
@@ -103,11 +103,11 @@ write-frame-spec =
     normal-in-requires
     (λ c κs. tt)
     put-four-requires
-    mul-put-columns
-    mul-put-columns-2
-    mul-put-columns-3
-    add-put-columns
-    put-columns-requires
+    mul-put-block
+    mul-put-block-2
+    mul-put-block-3
+    add-put-block
+    put-block-requires
     (λ c. search needs)
     (λ c. search needs)
     returns)
