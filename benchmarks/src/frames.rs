@@ -84,7 +84,9 @@ fn measure_accumulate<const WIDTH: usize>(planes: &[Plane]) {
                 SIGMA,
                 &plane.actions,
                 &plane.decompositions[0],
-                Some((map, &mut normal.hessian, &mut normal.gradient)),
+                Some(map),
+                &mut normal.hessian,
+                &mut normal.gradient,
             );
         }
     }
@@ -142,6 +144,8 @@ fn measure_cost(planes: &[Plane]) {
                 &plane.actions,
                 &plane.decompositions[0],
                 None,
+                &mut [],
+                &mut [],
             );
         }
         black_box(cost)
@@ -213,7 +217,7 @@ fn measure_linearize<const WIDTH: usize>(planes: &[Plane]) {
 
 /// The same in plain Rust: the compiler inlines all below the outermost functions, which are called as the library's are.
 mod plain {
-    use super::{ACTION, CENTRED, DECOMPOSITION};
+    use super::{black_box, ACTION, CENTRED, DECOMPOSITION};
 
     type Frame = [f64; CENTRED];
     type Action = [f64; ACTION];
@@ -283,16 +287,20 @@ mod plain {
         n: [f64; 3],
         mean: [f64; 3],
     ) -> ([[f64; W]; 3], [f64; W]) {
-        let along = |from: usize| dot(n, three(a, from));
-        let d: [[f64; W]; 3] =
-            std::array::from_fn(|k| std::array::from_fn(|c| along(39 + 27 * k + 3 * c)));
-        let m = std::array::from_fn(|c| {
-            along(12 + 3 * c) + d[0][c] * mean[0] + d[1][c] * mean[1] + d[2][c] * mean[2]
-        });
+        let mut d = [[0.0; W]; 3];
+        let mut m = [0.0; W];
+        for c in 0..W {
+            for k in 0..3 {
+                d[k][c] = dot(n, three(a, 39 + 27 * k + 3 * c));
+            }
+            let origin = dot(n, three(a, 12 + 3 * c));
+            m[c] = origin + d[0][c] * mean[0] + d[1][c] * mean[1] + d[2][c] * mean[2];
+        }
         (d, m)
     }
 
     /// With blocks of so many worked out columns, of which the first are added.
+    #[allow(clippy::too_many_arguments)]
     #[inline(never)]
     pub fn accumulate<const WIDTH: usize, const WORKED_OUT: usize>(
         frames: &[Frame],
@@ -300,7 +308,9 @@ mod plain {
         sigma: f64,
         actions: &[Action],
         decomposition: &Decomposition,
-        mut wanted: Option<(&[u32], &mut Vec<f64>, &mut Vec<f64>)>,
+        map: Option<&[u32]>,
+        hessian: &mut [f64],
+        gradient: &mut [f64],
     ) -> f64 {
         let Some((n, offset)) = fit(frames, fixed, actions, decomposition) else {
             return 0.0;
@@ -314,43 +324,48 @@ mod plain {
             let s_an = times(s, a_n);
             let along = dot(n, centre(a, frame)) + offset;
             cost += (dot(a_n, s_an) + count * along * along) * weight;
-            if let Some((map, hessian, gradient)) = &mut wanted {
+            if let Some(map) = map {
                 let order = gradient.len();
                 let at = map[k] as usize;
                 let (d, m) = derivatives::<WORKED_OUT>(a, n, three(frame, MEAN));
-                let p: [[f64; WORKED_OUT]; 3] = std::array::from_fn(|k| {
-                    std::array::from_fn(|i| {
-                        d[0][i] * s[3 * k] + d[1][i] * s[3 * k + 1] + d[2][i] * s[3 * k + 2]
-                    })
-                });
-                let entry = |i: usize, j: usize| {
-                    let spread = p[0][i] * d[0][j] + p[1][i] * d[1][j] + p[2][i] * d[2][j];
-                    (spread + m[i] * m[j] * count) * weight
-                };
-                let column = |j: usize| (at + j) * order + at..(at + j) * order + at + WIDTH;
-                if WORKED_OUT == WIDTH {
-                    for j in 0..WIDTH {
-                        for (i, cell) in hessian[column(j)].iter_mut().enumerate() {
-                            *cell += entry(i, j);
-                        }
+                let mut p = [[0.0; WORKED_OUT]; 3];
+                for k in 0..3 {
+                    for i in 0..WORKED_OUT {
+                        p[k][i] =
+                            d[0][i] * s[3 * k] + d[1][i] * s[3 * k + 1] + d[2][i] * s[3 * k + 2];
                     }
-                } else {
-                    // A whole block, of which the first rows and columns are added.
-                    let mut h = [[0.0; WORKED_OUT]; WORKED_OUT];
-                    for j in 0..WORKED_OUT {
-                        for i in 0..WORKED_OUT {
-                            h[j][i] = entry(i, j);
-                        }
+                }
+                let mut g = [0.0; WORKED_OUT];
+                for i in 0..WORKED_OUT {
+                    let spread = d[0][i] * s_an[0] + d[1][i] * s_an[1] + d[2][i] * s_an[2];
+                    g[i] = (spread + m[i] * (count * along)) * weight;
+                }
+                let mut h = [[0.0; WORKED_OUT]; WORKED_OUT];
+                for j in 0..WORKED_OUT {
+                    for i in 0..WORKED_OUT {
+                        let spread = p[0][i] * d[0][j] + p[1][i] * d[1][j] + p[2][i] * d[2][j];
+                        h[j][i] = (spread + m[i] * m[j] * count) * weight;
                     }
-                    for j in 0..WIDTH {
-                        for (i, cell) in hessian[column(j)].iter_mut().enumerate() {
-                            *cell += h[j][i];
+                    if WORKED_OUT == WIDTH {
+                        let column = &mut hessian[(at + j) * order + at..][..WIDTH];
+                        for i in 0..WIDTH {
+                            column[i] += h[j][i];
                         }
                     }
                 }
-                for (i, cell) in gradient[at..at + WIDTH].iter_mut().enumerate() {
-                    let spread = d[0][i] * s_an[0] + d[1][i] * s_an[1] + d[2][i] * s_an[2];
-                    *cell += (spread + m[i] * (count * along)) * weight;
+                if WORKED_OUT > WIDTH {
+                    // The whole block is made, and then its first rows and columns are added.
+                    black_box(&mut h);
+                    for j in 0..WIDTH {
+                        let column = &mut hessian[(at + j) * order + at..][..WIDTH];
+                        for i in 0..WIDTH {
+                            column[i] += h[j][i];
+                        }
+                    }
+                }
+                let part = &mut gradient[at..at + WIDTH];
+                for i in 0..WIDTH {
+                    part[i] += g[i];
                 }
             }
         }

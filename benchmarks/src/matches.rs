@@ -190,19 +190,27 @@ mod plain {
     }
 
     #[inline(always)]
-    fn residual(m: &Match, a: &Action) -> f64 {
-        let world = |r: usize| a[r] * m[0] + a[3 + r] * m[1] + a[6 + r] * m[2] + a[9 + r];
-        (m[3] * world(0) + m[4] * world(1) + m[5] * world(2) + m[6]) * (1.0 / m[7])
+    fn residual(m: &Match, a: &Action, information: f64) -> f64 {
+        let mut world = [0.0; 3];
+        for r in 0..3 {
+            world[r] = a[r] * m[0] + a[3 + r] * m[1] + a[6 + r] * m[2] + a[9 + r];
+        }
+        (m[3] * world[0] + m[4] * world[1] + m[5] * world[2] + m[6]) * information
     }
 
     #[inline(always)]
-    fn row<const WIDTH: usize>(m: &Match, a: &Action) -> [f64; WIDTH] {
-        let information = 1.0 / m[7];
-        std::array::from_fn(|c| {
-            let along = |from: usize| m[3] * a[from] + m[4] * a[from + 1] + m[5] * a[from + 2];
-            let [origin, x, y, z] = [12, 39, 66, 93].map(|from| along(from + 3 * c));
-            (origin + x * m[0] + y * m[1] + z * m[2]) * information
-        })
+    fn along(m: &Match, a: &Action, from: usize) -> f64 {
+        m[3] * a[from] + m[4] * a[from + 1] + m[5] * a[from + 2]
+    }
+
+    #[inline(always)]
+    fn row<const WIDTH: usize>(m: &Match, a: &Action, information: f64) -> [f64; WIDTH] {
+        let mut row = [0.0; WIDTH];
+        for c in 0..WIDTH {
+            let [x, y, z] = [39, 66, 93].map(|from| along(m, a, from + 3 * c));
+            row[c] = (along(m, a, 12 + 3 * c) + x * m[0] + y * m[1] + z * m[2]) * information;
+        }
+        row
     }
 
     #[inline(never)]
@@ -224,8 +232,9 @@ mod plain {
             let mut group_g = [0.0; WIDTH];
             let mut group_cost = 0.0;
             for m in group {
-                let r = residual(m, action);
-                let row = row::<WIDTH>(m, action);
+                let information = 1.0 / m[7];
+                let r = residual(m, action, information);
+                let row = row::<WIDTH>(m, action, information);
                 group_cost += r * r;
                 for j in 0..WIDTH {
                     for i in 0..WIDTH {
@@ -262,7 +271,7 @@ mod plain {
         for group in matches.chunks(GROUP) {
             let mut group_cost = 0.0;
             for m in group {
-                let r = residual(m, action);
+                let r = residual(m, action, 1.0 / m[7]);
                 group_cost += r * r;
             }
             cost += group_cost;
@@ -282,8 +291,9 @@ mod plain {
         }
         let rows = residuals.len();
         for (k, m) in matches.iter().enumerate() {
-            residuals[k] = residual(m, action);
-            let row = row::<WIDTH>(m, action);
+            let information = 1.0 / m[7];
+            residuals[k] = residual(m, action, information);
+            let row = row::<WIDTH>(m, action, information);
             for c in 0..WIDTH {
                 jacobian[c * rows + k] = row[c];
             }
