@@ -1,4 +1,4 @@
-// The C interface of Maghnelt for programs that use Eigen: the functions of maghnelt.h, with vectors and matrices in place of
+// The C interface of Maghnelt for programs that use Eigen: every function of maghnelt.h, with vectors and matrices in place of
 // pointers and lengths. Needs C++17, maghnelt.h and Eigen 3; there is nothing to link besides the library.
 //
 // Numbers lie in Eigen's own order, by columns, so that nothing is turned round: a list of records is a matrix with a record a
@@ -338,6 +338,23 @@ class FrameFactor {
         return cost;
     }
 
+    // Residuals and Jacobian: four rows a frame and four for the fixed set, dof columns a frame. The decompositions of the
+    // frames and of the fixed set are worked out here.
+    Rows linearize(const Actions &actions, const Decomposition &fitted) const {
+        const Eigen::Index count = own.cols();
+        Eigen::Matrix<double, MAGHNELT_DECOMPOSITION, Eigen::Dynamic> found(MAGHNELT_DECOMPOSITION, 1 + count + known.cols());
+        found.col(0) = fitted.record();
+        for (Eigen::Index k = 0; k < count + known.cols(); ++k) {
+            const auto frame = k < count ? own.col(k) : known.col(k - count);
+            const Eigen::Matrix3d scatter = Eigen::Map<const Eigen::Matrix3d>(frame.data() + 4);
+            found.col(1 + k) = Decomposition::of(scatter).record();
+        }
+        Rows rows{Eigen::VectorXd(4 * count + 4), Eigen::MatrixXd(4 * count + 4, count * static_cast<Eigen::Index>(width))};
+        detail::accept(maghnelt_frames_linearize(width, MAGHNELT_LENT(own), MAGHNELT_LENT(known), noise, MAGHNELT_LENT(actions),
+                                                 MAGHNELT_LENT(found), MAGHNELT_LENT(rows.residual), MAGHNELT_LENT(rows.jacobian)));
+        return rows;
+    }
+
   private:
     std::uint32_t width;
     double noise;
@@ -366,6 +383,21 @@ inline Rows matches_linearize(std::uint32_t dof, const Matches &matches, const A
     detail::accept(maghnelt_matches_linearize(dof, MAGHNELT_LENT(matches), MAGHNELT_LENT(action.record()),
                                               MAGHNELT_LENT(rows.residual), MAGHNELT_LENT(rows.jacobian)));
     return rows;
+}
+
+struct MatchRow {
+    double residual;
+    // dof state columns, then six extrinsic ones.
+    Eigen::RowVectorXd row;
+};
+
+// One match below its chain: its world point, and that point's derivatives by the state and by the extrinsic pose.
+inline MatchRow match_linearize(const Eigen::Matrix<double, MAGHNELT_MATCH, 1> &match, const Eigen::Vector3d &world,
+                                const Points &d_state, const Matrix36 &d_extrinsic) {
+    MatchRow out{0.0, Eigen::RowVectorXd(d_state.cols() + 6)};
+    detail::accept(maghnelt_match_linearize(static_cast<std::uint32_t>(d_state.cols()), MAGHNELT_LENT(match), MAGHNELT_LENT(world),
+                                            MAGHNELT_LENT(d_state), MAGHNELT_LENT(d_extrinsic), &out.residual, MAGHNELT_LENT(out.row)));
+    return out;
 }
 
 #undef MAGHNELT_LENT

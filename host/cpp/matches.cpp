@@ -68,6 +68,15 @@ int main() {
     }
     std::printf("A pose from %d matches with three planes: %.2f mm off, cost %.1f\n", static_cast<int>(matches.cols()),
                 1000.0 * (shift - stood).norm(), cost);
+
+    // One match below a chain of two poses: the extrinsic columns take the normal by sigma first, which shows in the last bit.
+    Eigen::Matrix<double, MAGHNELT_MATCH, 1> match;
+    match << 0, 0, 0, 3, 3, 3, 0, 3;
+    maghnelt::Matrix36 extrinsic = maghnelt::Matrix36::Zero();
+    extrinsic.col(0) << 0.1, 0.2, 0.3;
+    const maghnelt::MatchRow row = maghnelt::match_linearize(match, Eigen::Vector3d(1, 1, 1), Eigen::Matrix3d::Identity(), extrinsic);
+    expect(row.residual == 3 && row.row.size() == 9 && row.row[3] == 0.6000000000000001, "one match below its chain");
+
     expect((shift - stood).norm() < 0.001 && cost < static_cast<double>(matches.cols()), "the pose is found");
     return 0;
 }

@@ -42,7 +42,11 @@ int main() {
     const std::vector<std::uint32_t> picked = map.remapped(maghnelt::BlockMap({2, 0, 9})).words();
     expect(picked == std::vector<std::uint32_t>{6, 0, maghnelt::BlockMap::unmapped}, "a map read through a list");
     expect(maghnelt::Plane::of(Eigen::Vector3d(0, 3, 4), 10).offset == 2, "a plane of a long normal");
-    expect(maghnelt::sqrt(4) == 2, "a root");
+    const double sigma =
+        maghnelt::point_to_plane_sigma(maghnelt::Plane::of(Eigen::Vector3d::UnitZ(), 0), Eigen::Vector3d::Zero(), maghnelt::Matrix66::Zero(),
+                                       4.0 * Eigen::Matrix3d::Identity(), Eigen::Vector3d(1, 2, 3), Eigen::Matrix3d::Identity());
+    expect(sigma == 2, "the noise of a point off a plane that is known exactly");
+    expect(maghnelt::sqrt(4) == 2 && maghnelt::total_order_key(0) == 0, "a root and a key");
     try {
         maghnelt::Plane::of(Eigen::Vector3d::Zero(), 1);
         expect(false, "a normal of length 0 is refused");

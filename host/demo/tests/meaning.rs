@@ -2,8 +2,8 @@
 //! walls down to the noise.
 
 use maghnelt::{
-    Action, BlockMap, Decomposition, FrameFactor, Linearized, MatchList, Moments, NormalEquations,
-    Plane, PlaneMatch,
+    Action, BlockMap, Centred, Decomposition, FrameFactor, Linearized, MatchList, Moments,
+    NormalEquations, Plane, PlaneMatch,
 };
 use maghnelt_demo::adjust::{Adjustment, Progress};
 use maghnelt_demo::job::Job;
@@ -159,6 +159,11 @@ impl Wall {
         lapack::decomposition(&sums.scatter).unwrap()
     }
 
+    /// The frames and the fixed set.
+    fn sets(&self) -> impl Iterator<Item = &Centred> {
+        self.factor.frames().iter().chain(self.factor.fixed())
+    }
+
     /// Normal equations and cost, the plane being fitted anew.
     fn accumulated(&self, states: &[State]) -> (NormalEquations, f64) {
         let dof = self.group.dof();
@@ -168,6 +173,18 @@ impl Wall {
         let fitted = self.fitted(&actions);
         let cost = self.factor.accumulate(&actions, &fitted, &map, &mut normal);
         (normal, cost.unwrap())
+    }
+
+    fn linearized(&self) -> Linearized {
+        let actions = self.actions(&self.states);
+        let of_set = |set: &Centred| lapack::decomposition(&set.scatter()).unwrap();
+        let of_frames: Vec<Decomposition> = self.factor.frames().iter().map(of_set).collect();
+        let of_fixed = self.factor.fixed().map(of_set);
+        let of_fit = self.fitted(&actions);
+        let rows = self
+            .factor
+            .linearize(&actions, &of_fit, &of_frames, of_fixed.as_ref());
+        rows.unwrap()
     }
 }
 
@@ -219,6 +236,18 @@ fn is_slope(normal: &NormalEquations, cost: f64, cost_at: impl Fn(usize, f64) ->
         let rounded = 1e-11 * cost / H;
         let off = (slope - 2.0 * g).abs();
         assert!(off <= 1e-6 * steepest + rounded, "{i}: {slope} {}", 2.0 * g);
+    }
+}
+
+#[test]
+fn blocks_are_what_the_rows_sum_to() {
+    for wall in walls() {
+        let (normal, cost) = wall.accumulated(&wall.states);
+        // A root of a scatter is off by as much as rounding takes the whole scatter off.
+        let trace = |set: &Centred| (0..3).map(|r| set.scatter()[r][r]).sum::<f64>();
+        let scatter: f64 = wall.sets().map(trace).sum();
+        let size = (cost + scatter / (SIGMA * SIGMA)).sqrt();
+        agree(&normal, cost, &wall.linearized(), size);
     }
 }
 
