@@ -30,6 +30,7 @@ use Rattle.plane_fit.specs.declared.axis.Fit.{Fit}
 use Rattle.plane_fit.specs.declared.axis.Fit.the-variants.{Plane, NoPlane}
 use Rattle.frame_cost.specs.Cost.{weightOf, framesCost}
 use Rattle.frame_blocks.specs.Frames.{framesUnder, Ready, AllAdded}
+use Rattle.plane_moments.specs.Tests.{none, either-none}
 
 -- "A call's own inputs are all that is handed to it"
 pub record FramesWork : Type 0 where
@@ -103,14 +104,6 @@ unfoldable pub framesCall : ℕ → ℕ → FramesWork → Call
 framesCall m n w = judged (framesRefusal m n w) (called n w)
 
 -- ---- what is known where no test applies
-
-none : (b : Bool) (k rest : ℕ) → cond b (suc k) rest ≡ 0 → (b ≡ false) × (rest ≡ 0)
-none true k rest h = absurd (omega arith)
-none false k rest h = (refl, h)
-
-either-none : (a b : Bool) → (a || b) ≡ false → (a ≡ false) × (b ≡ false)
-either-none true b h = (h, cc)
-either-none false b h = (refl, h)
 
 pub record Accepted (m n : ℕ) (w : FramesWork) : Type 0 where
   pub ready : Ready m n (w .dof) (w .frames) (w .actions) (w .map)

@@ -1,17 +1,17 @@
 -- Building a frame factor: why the call is refused, and what it leaves where it is not. Definitions, and what an accepted call is known by; assumes nothing.
 -- frames: the moments of each frame; fixed: nothing, or one set's moments; the outputs are centred sets.
-use Prim.Native.Nat.{ℕ, suc, _*_, _/_, _<_}
-use native.Mathlib.Nat.{mul-comm}
+use Prim.Native.Nat.{ℕ, _+_, _*_, _<_, _≤_}
+use native.Mathlib.Nat.{mul-comm, eq-or-lt-of-le}
 use native.Mathlib.Omega.{arith}
-use mathlib.Core.Path.{_≡_, refl, ap, _∙_}
-use mathlib.Core.Logic.{_⊎_}
-use mathlib.Core.Bool.{Bool, true, false, not, _||_, cond}
+use mathlib.Core.Path.{_≡_, sym, ap, _∙_}
+use mathlib.Core.Logic.{_⊎_, ⊎-elim}
+use mathlib.Core.Bool.{Bool, true, false, not, _||_, _&&_, cond, and-true, true≢false}
 use mathlib.Core.List.{List, [], _∷_}
 use lib.Dec.{ltb, eqb}
 use lib.ListN.{length, getD}
-use lib.Ieee.{Float, nan, le}
+use lib.Ieee.{Float, nan, inf, fin, le, lt, eq, ofBits, ofFields, odd, up, down}
 use lib.Ieee.Scale.{finite}
-use borrow.Author.Tests.{not-false}
+use borrow.Author.Tests.{lt-ltb, eq-eqb, ltb-false, eqb-false, not-false}
 use Rattle.refusals.specs.Refusal.{_when_, firstOf, Answered}
 use Rattle.sums.specs.Sum.{zeroF}
 use Rattle.validate.specs.Finite.{allFinite, finitePositive}
@@ -20,7 +20,9 @@ use Rattle.normal_blocks.specs.Somewhere.{nowhere-at}
 use Rattle.point_moments.specs.Moments.{MOMENTS}
 use Rattle.point_moments.specs.Scatter.{CENTRED, hasMean}
 use Rattle.plane_fit.specs.Calls.{mostFrames, mostDof, badRecords, badCount, at-most-one, one-each}
+use Rattle.plane_fit.specs.Records.{whole, record-at}
 use Rattle.frame_sets.specs.Sets.{setCount, setAt, countAt, emptyAt, someEmpty, tooFew, notFinite, dropped, centredFrames, centredFixed, points}
+use Rattle.plane_moments.specs.Tests.{none, either-none}
 
 -- 3: the frames are whole sets, at most 256; the fixed set is nothing or one set; each output is one centred set for each set of its input. So the
 -- output of a fixed set is CENTRED numbers, and empty where no set is handed in: a set and a centred set are as long only by accident.
@@ -67,14 +69,6 @@ Builds dof frames fixed sigma outFrames outFixed points dropped r outFrames′ o
 
 -- ---- what is known where no test applies
 
-none : (b : Bool) (k rest : ℕ) → cond b (suc k) rest ≡ 0 → (b ≡ false) × (rest ≡ 0)
-none true k rest h = absurd (omega arith)
-none false k rest h = (refl, h)
-
-either-none : (a b : Bool) → (a || b) ≡ false → (a ≡ false) × (b ≡ false)
-either-none true b h = (h, cc)
-either-none false b h = (refl, h)
-
 -- the lists have the lengths that the work asks for
 pub record Whole (frames fixed outFrames outFixed : List Float) : Type 0 where
   pub fixed-set : (length fixed ≡ 0) ⊎ (length fixed ≡ MOMENTS)
@@ -91,6 +85,27 @@ whole-sets frames fixed outFrames outFixed h =
       frames-out = one-each MOMENTS frames CENTRED outFrames (q .0) ∙ mul-comm CENTRED (setCount frames);
       fixed-out = one-each MOMENTS fixed CENTRED outFixed (q .1) ∙ mul-comm CENTRED (setCount fixed);
     }
+
+strict : {a b : ℕ} → a ≤ b → (b ≡ a → ⊥) → a < b
+strict {a} {b} h n = ⊎-elim (λ (e : a ≡ b). absurd (n (sym e))) (λ (l : a < b). l) (eq-or-lt-of-le h)
+
+-- a finite number that is not at or below 0 is above it
+above-zero : (x : Float) → finite x ≡ true → le x zeroF ≡ false → lt zeroF x ≡ true
+unfolding lt eq le ofBits ofFields odd
+above-zero nan f h = f
+above-zero (inf s) f h = absurd (true≢false (sym f))
+above-zero (fin false m e) f h =
+    let p = either-none (ltb (m * up e * 1) (0 * down e)) _ h in
+    let a : 0 * down e ≤ m * up e * 1 = ltb-false (m * up e * 1) (0 * down e) (p .0) in
+    let b : m * up e * 1 ≡ 0 * down e → ⊥ = eqb-false (m * up e * 1) (0 * down e) (sym (and-true _) ∙ p .1) in
+    lt-ltb (0 * down e) (m * up e * 1) (strict a b)
+above-zero (fin true m e) f h =
+    let p = either-none (ltb 0 (m * up e * 1 + 0 * down e)) _ h in
+    let a : m * up e * 1 + 0 * down e ≤ 0 = ltb-false 0 (m * up e * 1 + 0 * down e) (p .0) in
+    let b : eqb (m * up e * 1) (0 * down e) ≡ true = eq-eqb (m * up e * 1) (0 * down e) (omega (arith, a)) in
+    let z : eqb (m * up e * 1) 0 ≡ true = eq-eqb (m * up e * 1) 0 (omega (arith, a)) in
+    let c : eqb (m * up e * 1) (0 * down e) && eqb (m * up e * 1) 0 ≡ true = rw (b, z) in
+    absurd (true≢false (sym c ∙ p .1))
 
 module _ (dof : ℕ) (frames fixed : List Float) (sigma : Float) (outFrames outFixed : List Float) (accepted : buildRefusal dof frames fixed sigma outFrames outFixed ≡ 0) where
   -- the tests 3, 4 and 6 do not apply
@@ -119,3 +134,12 @@ module _ (dof : ℕ) (frames fixed : List Float) (sigma : Float) (outFrames outF
   pub built-mean : (k : ℕ) → k < setCount frames → hasMean (setAt frames k) ≡ true
   unfolding someEmpty emptyAt countAt
   built-mean k h = ap not (nowhere-at (emptyAt frames) (setCount frames) (passed .1) k h)
+
+  -- each count is above 0
+  pub built-count : (k : ℕ) → k < setCount frames → lt zeroF (countAt frames k) ≡ true
+  unfolding someEmpty emptyAt countAt
+  built-count k h =
+      let w = whole MOMENTS frames k (omega arith) h in
+      let e = record-at MOMENTS frames k w 0 (omega arith) in
+      let f = built-finite .0 (MOMENTS * k + 0) (omega arith) in
+      above-zero (countAt frames k) (ap finite e ∙ f) (nowhere-at (emptyAt frames) (setCount frames) (passed .1) k h)

@@ -1,3 +1,4 @@
+pub mod Tests
 pub mod Accumulate
 pub mod Build
 pub mod Linearize

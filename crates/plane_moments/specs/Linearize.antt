@@ -24,6 +24,7 @@ use Rattle.point_moments.specs.Scatter.{CENTRED}
 use Rattle.derivative.specs.Action.{actionSize}
 use Rattle.frame_rows.specs.Rows.{decompositionAt, residualOf, jacobianOf, rowCount}
 use Rattle.frame_rows.specs.Steps.{Room, FixedRoom}
+use Rattle.plane_moments.specs.Tests.{none, either-none}
 
 -- ---- why it is refused, by the lengths of what is handed in
 
@@ -78,14 +79,6 @@ Linearizes dof frames fixed sigma actions ds residual jacobian r residual′ jac
     (linearized frames fixed sigma actions ds (wanted dof (length jacobian)))
 
 -- ---- what is known where no test applies
-
-none : (b : Bool) (k rest : ℕ) → cond b (suc k) rest ≡ 0 → (b ≡ false) × (rest ≡ 0)
-none true k rest h = absurd (omega arith)
-none false k rest h = (refl, h)
-
-either-none : (a b : Bool) → (a || b) ≡ false → (a ≡ false) × (b ≡ false)
-either-none true b h = (h, cc)
-either-none false b h = (refl, h)
 
 -- the Jacobian has as many cells as its rows and the wanted columns make
 wanted-cells : (count dof rows cells : ℕ) → (not (eqb cells 0) && not (eqb cells (count * dof * rows))) ≡ false → cells ≡ count * wanted dof cells * rows
