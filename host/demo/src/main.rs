@@ -53,14 +53,15 @@ fn run(options: &Options) -> Result<(), Box<dyn Error>> {
     let job = the_job(options)?;
     if let Some(file) = &options.write_job {
         write_file(file, &job.write())?;
-        println!("{} poses written to {file}", job.stations.len());
+        println!("{} written to {file}", counted(job.stations.len(), "pose"));
         return Ok(());
     }
     let (seen, known) = job.points();
     println!(
-        "{} poses saw {seen} points on {} surfaces; {known} more are known in the site.",
-        job.stations.len(),
-        job.surfaces.len()
+        "{} saw {} on {}; {known} more are known in the site.",
+        counted(job.stations.len(), "pose"),
+        counted(seen, "point"),
+        counted(job.surfaces.len(), "surface")
     );
     let adjustment = Adjustment::new(&job)?;
     show_factors(&job, &adjustment);
@@ -111,6 +112,11 @@ fn write_file(file: &str, text: &str) -> Result<(), String> {
     fs::write(file, text).map_err(|why| format!("{file} can't be written: {why}"))
 }
 
+fn counted(number: usize, thing: &str) -> String {
+    let more = if number == 1 { "" } else { "s" };
+    format!("{number} {thing}{more}")
+}
+
 fn show_factors(job: &Job, adjustment: &Adjustment) {
     let frames: usize = adjustment
         .planes
@@ -118,8 +124,9 @@ fn show_factors(job: &Job, adjustment: &Adjustment) {
         .map(|p| p.factor.frames().len())
         .sum();
     println!(
-        "{} planes with {frames} frames: each frame's moments stand for its points from here on.",
-        adjustment.planes.len()
+        "{} with {}: each frame's moments stand for its points from here on.",
+        counted(adjustment.planes.len(), "plane"),
+        counted(frames, "frame")
     );
     let names = adjustment
         .unused

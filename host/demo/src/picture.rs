@@ -312,11 +312,10 @@ fn path(svg: &mut Svg, scale: &Scale, poses: &[Pose], class: &str) {
 /// The wall's name behind it.
 fn label(svg: &mut Svg, scale: &Scale, sheet: &Sheet, class: &str) {
     let outside = 24.0 / scale.per_metre;
-    let side = [
-        sheet.mean[0] + outside * sheet.normal[0],
-        sheet.mean[1] + outside * sheet.normal[1],
-    ];
-    let [x, y] = scale.place(side);
+    // Beside the middle one of its points: the mean of a wall in two parts may lie between them.
+    let middle = quantile(sheet.after.iter().map(|point| sheet.off(point)[0]), 0.5);
+    let at = |r: usize| sheet.mean[r] + middle * sheet.along[r] + outside * sheet.normal[r];
+    let [x, y] = scale.place([at(0), at(1)]);
     let mut angle = -sheet.along[1].atan2(sheet.along[0]).to_degrees();
     // Never upside down.
     if angle > 90.5 {
