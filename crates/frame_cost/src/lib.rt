@@ -85,6 +85,6 @@ pub fn with_fixed(sum: f64, fixed: &[f64], normal: [f64; 3], offset: f64, weight
     let f = Centred::from_list(fixed);
     let mean = f.mean;
     let along = frame_normal::along(normal, offset, mean);
-    let p = set_pull(f, normal, along, weight);
-    sum + p.cost
+    let q = set_pull(f, normal, along, weight);
+    sum + q.cost
 }

@@ -21,7 +21,7 @@ loop-holds : tie.Need-loop-holds Inv-loop μ-loop
 loop-holds c = (search needs, refl, refl, summed-none _ _ _ _ _ _ _ _ _ _)
 
 from-list-requires : tie.Need-from-list-requires Inv-loop μ-loop
-from-list-requires c κs = rw (c .frame .ensures) (record-length 13 _ (c .before .before .loop .k) (omega arith))
+from-list-requires c κs = rw (c .frame .ensures) (record-length 13 _ _ (omega arith))
 
 add-frame-requires : tie.Need-add-frame-requires Inv-loop μ-loop
 add-frame-requires c κs =
@@ -33,7 +33,7 @@ add-frame-requires c κs =
       ready .narrow,
       ready-fits _ _ _ _ _ _ ready _ (l .k) _ (l .inv .2) (looked .lookup .ensures) (omega arith),
       ready-square _ _ _ _ _ _ ready _ _ (l .inv .1) (l .inv .2),
-      rw (c .record-at .ensures) (record-length 120 _ (l .k) (omega (arith, ready .acted))),
+      rw (c .record-at .ensures) (record-length 120 _ _ (omega (arith, ready .acted))),
     )
 
 loop-again : tie.Need-loop-again Inv-loop μ-loop

@@ -17,10 +17,10 @@ abbrev μ-loop : tie.MeasureT-loop
 μ-loop frames actions normal offset weight count sum₀ k₀ sum k = count - k
 
 from-list-requires : tie.Need-from-list-requires Inv-loop μ-loop
-from-list-requires c κs = rw (c .frame .ensures) (record-length 13 _ (c .before .before .loop .k) (omega arith))
+from-list-requires c κs = rw (c .frame .ensures) (record-length 13 _ _ (omega arith))
 
 frame-pull-requires : tie.Need-frame-pull-requires Inv-loop μ-loop
-frame-pull-requires c κs = rw (c .record-at .ensures) (record-length 120 _ (c .before .before .before .before .loop .k) (omega arith))
+frame-pull-requires c κs = rw (c .record-at .ensures) (record-length 120 _ _ (omega arith))
 
 loop-again : tie.Need-loop-again Inv-loop μ-loop
 unfolding costAt frameCost
