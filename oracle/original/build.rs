@@ -53,34 +53,6 @@ fn main() {
     let whole = read(&factors.join("mod.rs"));
     let cuts: Vec<String> = CUTS.iter().map(|cut| cut_out(&whole, *cut)).collect();
     write(&out.join("cuts.rs"), &cuts.join("\n\n"));
-    say_what_is_exported();
-}
-
-/// Calls that a library may not have yet: `exported_NAME` is set for those that it has.
-const LATER: [&str; 6] = [
-    "frames_build",
-    "frames_accumulate",
-    "frames_linearize",
-    "matches_accumulate",
-    "matches_linearize",
-    "match_linearize",
-];
-
-fn say_what_is_exported() {
-    let folder =
-        env::var_os("DEP_MAGHNELT_LIB_DIR").expect("the crate maghnelt says where its library is");
-    let path = PathBuf::from(folder).join("libmaghnelt.a");
-    println!("cargo:rerun-if-changed={}", path.display());
-    let library =
-        fs::read(&path).unwrap_or_else(|error| stop(&format!("{}: {error}", path.display())));
-    for name in LATER {
-        println!("cargo:rustc-check-cfg=cfg(exported_{name})");
-        // The archive's list of symbols has each name with a zero at its end.
-        let symbol = format!("maghnelt_{name}\0").into_bytes();
-        if library.windows(symbol.len()).any(|part| part == symbol) {
-            println!("cargo:rustc-cfg=exported_{name}");
-        }
-    }
 }
 
 /// The folder that the variable names or, without it, the one beside the repository.

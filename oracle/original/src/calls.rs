@@ -66,22 +66,22 @@ pub struct Call {
     pub parameters: &'static [&'static str],
     /// How each is handed in, by the words that [`CALLS`] is declared with.
     pub manners: &'static [&'static str],
-    /// Makes the call; none where the library does not have it yet.
-    pub make: Option<fn(&mut [Value]) -> u32>,
+    /// Makes the call.
+    pub make: fn(&mut [Value]) -> u32,
 }
 
 /// Declares the library's functions, and a [`Call`] for each, whose parameters are:
 /// `word` and `number` by value; `numbers` and `words` lent; `out_numbers` and `out_words` lent to be written;
 /// `out_number` and `out_word` one of them behind a pointer.
 macro_rules! calls {
-    ($($(#[$condition:meta])? $constant:ident $name:literal $function:ident ($($parameter:ident: $kind:ident),* $(,)?))*) => {
+    ($($constant:ident $name:literal $function:ident ($($parameter:ident: $kind:ident),* $(,)?))*) => {
         $(
             /// The call of that name.
             pub static $constant: Call = Call {
                 name: $name,
                 parameters: &[$(stringify!($parameter)),*],
                 manners: &[$(stringify!($kind)),*],
-                make: made!($($condition,)? $function ($($parameter: $kind),*)),
+                make: made!($function ($($parameter: $kind),*)),
             };
         )*
 
@@ -90,22 +90,15 @@ macro_rules! calls {
     };
 }
 
-/// The function that makes a call, or none under a condition that does not hold.
+/// The function that makes a call.
 macro_rules! made {
-    ($condition:meta, $($rest:tt)*) => {{
-        #[cfg($condition)]
-        let make: Option<fn(&mut [Value]) -> u32> = made!($($rest)*);
-        #[cfg(not($condition))]
-        let make = None;
-        make
-    }};
     ($function:ident ($($parameter:ident: $kind:ident),*)) => {
-        Some(|values: &mut [Value]| {
+        |values: &mut [Value]| {
             let [$($parameter),*] = values else {
                 panic!("the number of parameters")
             };
             flattened!($function [] $($parameter: $kind),*)
-        })
+        }
     };
 }
 
@@ -177,26 +170,20 @@ calls! {
     REMAP "remap" maghnelt_remap(map: words, list: words, out: out_words)
     FRAMES_FIT "frames_fit" maghnelt_frames_fit(
         dof: word, frames: numbers, fixed: numbers, actions: numbers, out: out_numbers)
-    #[exported_frames_build]
     FRAMES_BUILD "frames_build" maghnelt_frames_build(
         dof: word, frames: numbers, fixed: numbers, sigma: number, centred_frames: out_numbers,
         centred_fixed: out_numbers, points: out_number, fixed_dropped: out_word)
-    #[exported_frames_accumulate]
     FRAMES_ACCUMULATE "frames_accumulate" maghnelt_frames_accumulate(
         dof: word, frames: numbers, fixed: numbers, sigma: number, actions: numbers, decomposition: numbers,
         map: words, hessian: out_numbers, gradient: out_numbers, cost: out_number)
-    #[exported_frames_linearize]
     FRAMES_LINEARIZE "frames_linearize" maghnelt_frames_linearize(
         dof: word, frames: numbers, fixed: numbers, sigma: number, actions: numbers, decompositions: numbers,
         residual: out_numbers, jacobian: out_numbers)
-    #[exported_matches_accumulate]
     MATCHES_ACCUMULATE "matches_accumulate" maghnelt_matches_accumulate(
         dof: word, matches: numbers, action: numbers, map: words, hessian: out_numbers, gradient: out_numbers,
         cost: out_number)
-    #[exported_matches_linearize]
     MATCHES_LINEARIZE "matches_linearize" maghnelt_matches_linearize(
         dof: word, matches: numbers, action: numbers, residual: out_numbers, jacobian: out_numbers)
-    #[exported_match_linearize]
     MATCH_LINEARIZE "match_linearize" maghnelt_match_linearize(
         dof: word, a_match: numbers, world: numbers, d_state: numbers, d_extrinsic: numbers, residual: out_number,
         row: out_numbers)

@@ -97,12 +97,7 @@ fn compare(arguments: &Arguments) -> ExitCode {
     }
     for call in CALLS {
         let cases = tally.cases.get(call.name).unwrap_or(&0);
-        let missing = if call.make.is_none() {
-            ", not compared: the library does not have it"
-        } else {
-            ""
-        };
-        println!("{:24} {cases:>9} calls{missing}", call.name);
+        println!("{:24} {cases:>9} calls", call.name);
     }
     println!(
         "{} calls, {} differences",

@@ -23,13 +23,24 @@ const PATTERNS: usize = 60;
 const JOBS_DRAWN: u64 = 30_000;
 const STATES: u64 = 2;
 
-/// Of a kind one call is taken at least, whatever it takes to store; and so many where it takes few units, as its lists are
-/// mostly those of other calls.
-const TAKEN: usize = 12;
-const FEW: usize = 64;
+/// Of a kind one call is taken at least, whatever it takes to store; and as many as the first number where it takes few units, at
+/// most the second, since its lists are mostly those of other calls.
+fn taken_of(case: &Case) -> [usize; 2] {
+    match case.call.parameters[0] {
+        _ if is_wide(case) => [8, 1000],
+        "dof" => [3, 20],
+        _ => [8, 64],
+    }
+}
 
 /// A case's kind in the sample: of whatever group.
 fn key(case: &Case) -> String {
+    if is_long(case) {
+        return "more than a group".to_string();
+    }
+    if is_wide(case) {
+        return format!("{} wide", case.call.name);
+    }
     let kind = match case.kind.split_once(' ') {
         Some((group, rest)) if GROUPS.contains(&group) => rest,
         _ => &case.kind,
@@ -138,7 +149,7 @@ fn words(case: &Case, place: usize) -> Option<[Vec<u32>; 2]> {
     Some([before.clone(), after])
 }
 
-/// Whether a case may be stored: it is compared, all that it leaves is seen, and its lists have room.
+/// Whether a case may be stored: all that it leaves is seen, and its lists have room.
 fn is_fit(case: &Case) -> bool {
     let is_seen = |after: &After| match after {
         After::Numbers(cells) => !cells.iter().any(|cell| matches!(cell, Cell::Unseen)),
@@ -146,17 +157,23 @@ fn is_fit(case: &Case) -> bool {
     };
     let room = |place: usize| match case.call.parameters[place] {
         _ if is_pattern(case, place) => PATTERNS,
-        "hessian" | "jacobian" => 64,
+        "hessian" | "jacobian" => 100,
         "matches" if std::ptr::eq(case.call, &MATCHES_ACCUMULATE) => LONGEST,
         _ => LONG,
     };
-    case.call.make.is_some()
-        && case.after.iter().all(is_seen)
+    case.after.iter().all(is_seen)
         && (0..case.before.len()).all(|place| case.before[place].len() <= room(place))
 }
 
 fn is_long(case: &Case) -> bool {
     case.before.iter().any(|value| value.len() > LONG)
+}
+
+/// Whether a Hessian or a Jacobian has more than 40 entries.
+fn is_wide(case: &Case) -> bool {
+    let names = case.call.parameters.iter().zip(&case.before);
+    let mut matrices = names.filter(|(name, _)| matches!(**name, "hessian" | "jacobian"));
+    matrices.any(|(_, value)| value.len() > 40)
 }
 
 /// Draws jobs, takes some calls of every kind, and hands back the sample's bytes with the number of its cases.
@@ -173,13 +190,9 @@ pub fn sample(seed: u64) -> (Vec<u8>, usize) {
             let mut cases = Vec::new();
             (job.run)(&mut Generator::new(seeds.bits()), &mut cases);
             for case in cases.iter().filter(|case| is_fit(case)) {
-                let key = if is_long(case) {
-                    "long".to_string()
-                } else {
-                    key(case)
-                };
-                let number = taken.entry(key).or_default();
-                if *number == 0 || *number < TAKEN && needed(case, &lists) <= FEW {
+                let number = taken.entry(key(case)).or_default();
+                let [most, few] = taken_of(case);
+                if *number == 0 || *number < most && needed(case, &lists) <= few {
                     *number += 1;
                     stored.push(store(case, outputs, &mut lists));
                 }

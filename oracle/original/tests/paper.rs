@@ -204,10 +204,8 @@ fn a_wrong_bit_anywhere_is_seen() {
                     Some(number) => *number = wrong(*number),
                     None => case.answer ^= 1,
                 }
-                if case.call.make.is_some() {
-                    assert!(case.difference().is_some(), "{}", case.description());
-                    seen += 1;
-                }
+                assert!(case.difference().is_some(), "{}", case.description());
+                seen += 1;
             }
         }
     }
