@@ -113,6 +113,7 @@ pub fn residual_and_row(
     let s = [list[at], list[at + 1], list[at + 2]];
     let n = [list[at + 3], list[at + 4], list[at + 5]];
     let info = 1.0 / list[at + 7];
+    let r = residual(x, s, n, list[at + 6], info);
     row_by(t, s, n, info, dof, row);
-    residual(x, s, n, list[at + 6], info)
+    r
 }

@@ -10,10 +10,11 @@ use Rattle.match_rows.proofs.residual_and_row.Tie as tie
 returns : tie.Need-returns
 unfolding residualAt rowAt
 returns c =
-    let by = c .before .before in
-    let a = by .before .before .before .before .before .before .before .before .before .before .before .args in
+    let read = c .before .before in
+    let start = read .before .before .before .before .before .before .before .before .before .before .before in
+    let a = start .args in
     let m = matchAt (a .list .now) (a .k) in
-    (c .residual .ensures, λ i h. by .row-by .ensures i h ∙ row-is (a .x .now) (a .t .now) m (a .dof) i (search needs) (search needs) h)
+    (read .residual .ensures, λ i h. c .row-by .ensures i h ∙ row-is (a .x .now) (a .t .now) m (a .dof) i (start .pre .2) (start .pre .3) h)
 
 pub residual-and-row-spec : {M : Type 1} → statement M
 residual-and-row-spec =
@@ -40,9 +41,9 @@ residual-and-row-spec =
     (λ c. search needs)
     (λ c. search needs)
     (λ c. search needs)
+    (λ c. search needs)
+    (λ c. search needs)
+    (λ c. search needs)
     (λ c κs. search needs)
-    (λ c. search needs)
-    (λ c. search needs)
-    (λ c. search needs)
     (λ c κs. search needs)
     returns)
