@@ -23,13 +23,17 @@ const PATTERNS: usize = 60;
 const JOBS_DRAWN: u64 = 30_000;
 const STATES: u64 = 2;
 
-/// Of a kind one call is taken at least, whatever it takes to store; and as many as the first number where it takes few units, at
-/// most the second, since its lists are mostly those of other calls.
-fn taken_of(case: &Case) -> [usize; 2] {
-    match case.call.parameters[0] {
-        _ if is_wide(case) => [8, 1000],
-        "dof" => [3, 20],
-        _ => [8, 64],
+/// How many calls of a kind are taken: at least the first number, whatever they take to store, and up to the second where one takes
+/// few units, at most the third, since its lists are mostly those of other calls.
+fn taken_of(case: &Case) -> [usize; 3] {
+    match (case.call.name, case.call.parameters[0]) {
+        _ if is_long(case) => [1, 1, 0],
+        _ if is_wide(case) => [10, 10, 0],
+        _ if case.kind.starts_with("refused by") => [1, 4, 24],
+        ("remap", _) => [2, 2, 0],
+        ("match_linearize" | "frames_build" | "point_to_plane_sigma", _) => [4, 4, 0],
+        (_, "dof") => [1, 3, 20],
+        _ => [8, 8, 0],
     }
 }
 
@@ -161,7 +165,14 @@ fn is_fit(case: &Case) -> bool {
         "matches" if std::ptr::eq(case.call, &MATCHES_ACCUMULATE) => LONGEST,
         _ => LONG,
     };
+    // Of two frames the actions are such as poses have, which are mostly zeros.
+    let is_sparse = |value: &Value| match value {
+        Value::Numbers(numbers) => numbers.iter().filter(|x| x.to_bits() != 0).count() <= 110,
+        Value::Words(_) => true,
+    };
+    let mut actions = case.before.iter().zip(case.call.parameters);
     case.after.iter().all(is_seen)
+        && actions.all(|(value, name)| *name != "actions" || is_sparse(value))
         && (0..case.before.len()).all(|place| case.before[place].len() <= room(place))
 }
 
@@ -169,11 +180,11 @@ fn is_long(case: &Case) -> bool {
     case.before.iter().any(|value| value.len() > LONG)
 }
 
-/// Whether a Hessian or a Jacobian has more than 40 entries.
+/// Whether a Hessian or a Jacobian has more than 25 entries.
 fn is_wide(case: &Case) -> bool {
     let names = case.call.parameters.iter().zip(&case.before);
     let mut matrices = names.filter(|(name, _)| matches!(**name, "hessian" | "jacobian"));
-    matrices.any(|(_, value)| value.len() > 40)
+    matrices.any(|(_, value)| value.len() > 25)
 }
 
 /// Draws jobs, takes some calls of every kind, and hands back the sample's bytes with the number of its cases.
@@ -191,8 +202,8 @@ pub fn sample(seed: u64) -> (Vec<u8>, usize) {
             (job.run)(&mut Generator::new(seeds.bits()), &mut cases);
             for case in cases.iter().filter(|case| is_fit(case)) {
                 let number = taken.entry(key(case)).or_default();
-                let [most, few] = taken_of(case);
-                if *number == 0 || *number < most && needed(case, &lists) <= few {
+                let [least, most, few] = taken_of(case);
+                if *number < least || *number < most && needed(case, &lists) <= few {
                     *number += 1;
                     stored.push(store(case, outputs, &mut lists));
                 }

@@ -23,11 +23,14 @@ pub fn run(generator: &mut Generator, cases: &mut Vec<Case>) {
         build::<Affine<10>>(Temper::Met, generator, cases);
         return;
     }
-    for_a_group!(generator, of_group(generator, cases));
+    match Temper::random(generator) {
+        // A turn has no zeros to speak of.
+        Temper::Zeros => of_group::<Affine<2>>(Temper::Zeros, generator, cases),
+        temper => for_a_group!(generator, of_group(temper, generator, cases)),
+    }
 }
 
-fn of_group<G: Tried>(generator: &mut Generator, cases: &mut Vec<Case>) {
-    let temper = Temper::random(generator);
+fn of_group<G: Tried>(temper: Temper, generator: &mut Generator, cases: &mut Vec<Case>) {
     let Some(built) = build::<G>(temper, generator, cases) else {
         return;
     };
@@ -104,6 +107,7 @@ fn build<G: Tried>(
     cases: &mut Vec<Case>,
 ) -> Option<(LidarPlaneMomentFactor<G>, Vec<Vec<f64>>, f64)> {
     let count = match generator.below(60) {
+        _ if temper == Temper::Zeros => 1 + generator.below(2),
         0 => 30,
         1..8 => 4 + generator.below(6),
         _ => 1 + generator.below(3),
@@ -120,7 +124,7 @@ fn build<G: Tried>(
         })
         .collect();
     let mut fixed = match (generator.below(6), temper) {
-        (0..2, _) => Vec::new(),
+        (0..2, _) | (2..4, Temper::Zeros) => Vec::new(),
         (2, _) => vec![0.0; 13],
         (_, Temper::Met) => draws::record_of(&piece, generator).to_vec(),
         _ => any_set(temper, generator),
