@@ -50,6 +50,11 @@ pub fn made(
         8 => maghnelt::maghnelt_remap(u, v, w),
         9 => maghnelt::maghnelt_frames_fit(first_word(u), a, b, c, d),
         10 => build(u, a, b, c, d, e, f, v),
+        11 => accumulate(u, a, b, c, d, p, v, e, f, g),
+        12 => maghnelt::maghnelt_frames_linearize(first_word(u), a, b, first_number(c), d, p, e, f),
+        13 => accumulate_matches(u, a, b, v, c, d, e),
+        14 => maghnelt::maghnelt_matches_linearize(first_word(u), a, b, c, d),
+        15 => match_linearize(u, a, b, c, d, e, f),
         _ => UNKNOWN,
     }
 }
@@ -99,5 +104,80 @@ fn build(
     );
     put_number(f, points);
     put_word(v, dropped);
+    answer
+}
+
+fn accumulate(
+    dof: &[u32],
+    frames: &[f64],
+    fixed: &[f64],
+    sigma: &[f64],
+    actions: &[f64],
+    decomposition: &[u64],
+    map: &[u32],
+    hessian: &mut [f64],
+    gradient: &mut [f64],
+    g: &mut [f64],
+) -> u32 {
+    let mut cost = first_number(g);
+    let answer = maghnelt::maghnelt_frames_accumulate(
+        first_word(dof),
+        frames,
+        fixed,
+        first_number(sigma),
+        actions,
+        decomposition,
+        map,
+        hessian,
+        gradient,
+        &mut cost,
+    );
+    put_number(g, cost);
+    answer
+}
+
+fn accumulate_matches(
+    dof: &[u32],
+    matches: &[f64],
+    action: &[f64],
+    map: &[u32],
+    hessian: &mut [f64],
+    gradient: &mut [f64],
+    e: &mut [f64],
+) -> u32 {
+    let mut cost = first_number(e);
+    let answer = maghnelt::maghnelt_matches_accumulate(
+        first_word(dof),
+        matches,
+        action,
+        map,
+        hessian,
+        gradient,
+        &mut cost,
+    );
+    put_number(e, cost);
+    answer
+}
+
+fn match_linearize(
+    dof: &[u32],
+    one: &[f64],
+    world: &[f64],
+    d_state: &[f64],
+    d_extrinsic: &[f64],
+    e: &mut [f64],
+    row: &mut [f64],
+) -> u32 {
+    let mut residual = first_number(e);
+    let answer = maghnelt::maghnelt_match_linearize(
+        first_word(dof),
+        one,
+        world,
+        d_state,
+        d_extrinsic,
+        &mut residual,
+        row,
+    );
+    put_number(e, residual);
     answer
 }
