@@ -10,6 +10,10 @@ use Rattle.sums.specs.Sum.{off}
 abbrev pub actionSize : ℕ
 actionSize = 120
 
+-- the most columns that its derivative has
+abbrev pub mostDof : ℕ
+mostDof = 9
+
 -- of A, 3 by 3
 abbrev pub matrixPlace : ℕ
 matrixPlace = 0

@@ -8,9 +8,12 @@ ghost use Rattle.sums.specs.Fill.{padded};
 ghost use Rattle.derivative.specs.Action.{actionSize};
 ghost use Rattle.derivative.specs.Derivative.{normalAt, normalRow, combined, shifted, rows, dAn, dAlong};
 
-// Where an action of 120 numbers has `origin`, and `axes` for the coordinates x, y and z of the point.
+// How many numbers an action is, and the most columns that its derivative has.
 pub const ACTION: usize = 120;
 
+pub const MOST_DOF: u32 = 9;
+
+// Where it has `origin`, and `axes` for the coordinates x, y and z of the point.
 pub const ORIGIN: usize = 12;
 
 pub const AXIS_X: usize = 39;

@@ -1,8 +1,8 @@
 // What one frame adds under a plane beside its cost, and all frames of a call.
 pub mod block;
 
+use derivative::ACTION;
 use normal_blocks::Place;
-use plane_fit::ACTION;
 use point_moments::scatter::CENTRED;
 use point_moments::scatter::Centred;
 ghost use mathlib.Core.Path.{_≡_};

@@ -1,5 +1,5 @@
 // What a frame and the fixed set cost under a plane.
-use plane_fit::ACTION;
+use derivative::ACTION;
 use point_moments::scatter::Centred;
 ghost use mathlib.Core.Path.{_≡_};
 ghost use mathlib.Core.Logic.{_⊎_};

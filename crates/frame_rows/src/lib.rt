@@ -12,7 +12,7 @@ ghost use Rattle.plane_fit.specs.Fit.{frameCount};
 ghost use Rattle.frame_rows.specs.Rows.{scaleOf, rootRow, decompositionAt, fixedRow, residualOf, jacobianOf};
 ghost use Rattle.frame_rows.specs.Steps.{rootOf, rowsOf, columnOf, putColumns, Room, FixedRoom, FrameWritten, FramesWritten};
 use decomposition::DECOMPOSITION;
-use plane_fit::ACTION;
+use derivative::ACTION;
 use point_moments::scatter::CENTRED;
 use point_moments::scatter::Centred;
 

@@ -1,25 +1,22 @@
 -- One match below its chain: its residual and its row, from the point in the world, the state's columns and the extrinsic Jacobian. Assumes nothing.
 use Prim.Native.Nat.{ℕ, _+_, _*_, _<_, _≤_}
-use mathlib.Core.Path.{_≡_, refl, sym, ap, _∙_}
+use mathlib.Core.Path.{_≡_, refl, sym, _∙_}
 use mathlib.Core.Bool.{Bool, true, false, not, _||_, _&&_, cond, true≢false}
 use mathlib.Core.List.{List, [], _∷_, _++_, append-nil}
 use native.Mathlib.Nat.{le-of-eq}
 use native.Mathlib.Omega.{arith}
 use lib.Dec.{ltb, eqb}
-use lib.ListN.{length, take, drop, drop-of-length-le}
+use lib.ListN.{length, take, drop-of-length-le}
 use lib.Seq.{ext-getD, getD-take, length-take-le}
 use lib.Ieee.{Float, nan}
-use borrow.Author.Tests.{eqb-true, ne-eqb, not-false}
-use Rattle.refusals.specs.Refusal.{_when_, firstOf, wrongLength, Answered}
+use borrow.Author.Tests.{eqb-true, ne-eqb}
+use Rattle.refusals.specs.Refusal.{_when_, firstOf, wrongLength, Answered, not-both}
 use Rattle.sums.specs.Sum.{_⊕_, _⊗_, sumTo, dot, tab, at}
 use Rattle.sums.specs.Laws.{length-tab, getD-tab}
 use Rattle.sums.specs.Fill.{First, written}
 use Rattle.lists.specs.Part.{_!_, part}
+use Rattle.derivative.specs.Action.{mostDof}
 use Rattle.map_plane.specs.Match.{MATCH, normal, offset, information, badPoint, badSigma, matchReasons}
-
--- the most columns of a state
-abbrev pub mostDof : ℕ
-mostDof = 9
 
 -- the columns of the extrinsic Jacobian
 abbrev pub EXTRINSIC : ℕ
@@ -80,10 +77,6 @@ Linearized x number r l r′ l′ =
     Answered {A = Float × List Float} (linearizeRefusal x l) number (r, l) (r′, l′) (residual (x .matched) (x .world), rowLeft x l)
 
 -- ---- laws
-not-both : (a b : Bool) → a ≡ false → (not a && not b) ≡ false → b ≡ true
-not-both a true e h = refl
-not-both a false e h = sym (rw e at h)
-
 pub row-wanted : (dof cells : ℕ) → badRow dof cells ≡ false → (cells ≡ 0 → ⊥) → cells ≡ dof + EXTRINSIC
 unfolding badRow
 row-wanted dof cells h some = eqb-true cells (dof + EXTRINSIC) (not-both (eqb cells 0) (eqb cells (dof + EXTRINSIC)) (ne-eqb cells 0 some) h)

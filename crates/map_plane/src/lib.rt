@@ -8,13 +8,12 @@ ghost use Rattle.sums.specs.Fill.{First, written};
 ghost use Rattle.lists.specs.Part.{part};
 ghost use Rattle.map_plane.specs.Match.{MATCH, matchReasons, normal, information};
 ghost use Rattle.map_plane.specs.Linearize.{EXTRINSIC, residual, projected, wholeRow, badLengths, badRow, Linearized};
+use derivative::MOST_DOF;
 
 // How many numbers a match is: the point, the plane's normal and offset, sigma.
 pub const MATCH: usize = 8;
 
-// The most columns of a state, and the columns of the extrinsic Jacobian.
-pub const MOST_DOF: u32 = 9;
-
+// The columns of the extrinsic Jacobian.
 const EXTRINSIC: usize = 6;
 
 // Why the match at a place of a list is turned away, or 0. One early return a test: tests joined into one bool compile to slower code.

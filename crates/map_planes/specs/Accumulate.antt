@@ -7,11 +7,11 @@ use mathlib.Core.List.{List, [], _∷_, _++_}
 use lib.Dec.{eqb}
 use lib.ListN.{length}
 use lib.Ieee.{Float}
-use Rattle.refusals.specs.Refusal.{Reason, _when_, firstOf}
+use Rattle.refusals.specs.Refusal.{Reason, _when_, firstOf, none}
 use Rattle.derivative.specs.Action.{actionSize}
 use Rattle.terms.specs.Terms.{addAll, upto}
 use Rattle.normal_blocks.specs.Map.{badWords, lookup, someExceeds}
-use Rattle.normal_blocks.specs.Calls.{badTarget, square}
+use Rattle.normal_blocks.specs.Calls.{mapReasons, badTarget, square}
 use Rattle.normal_blocks.specs.Target.{hessianAt, gradientAt, entryOf, numberFrom}
 use Rattle.normal_blocks.specs.TargetLaws.{hessian-same, gradient-same}
 use Rattle.normal_blocks.specs.declared.Place.{Place}
@@ -23,7 +23,7 @@ use Rattle.call_lists.specs.Calls.{Call, judged, Tame}
 use Rattle.call_lists.specs.Frames.{Frames, frameHessian, frameGradient, framed}
 use Rattle.call_lists.specs.FrameLaws.{framed-tame, judged-tame}
 use Rattle.call_lists.specs.Accumulated.{Accumulated, accumulated-refused, accumulated-framed}
-use Rattle.map_planes.specs.Reasons.{Numbered, orElse, orElse-some, first-append, not-first, neither, suc-no, parts-numbered}
+use Rattle.map_planes.specs.Reasons.{Numbered, orElse, orElse-some, first-append, neither, suc-no, parts-numbered}
 use Rattle.map_planes.specs.Calls.{fit, matchesReasons, matchesRefusal, listReasons, reasonsAt, reasons-numbered}
 
 -- the call's own inputs
@@ -43,13 +43,13 @@ framesOf w = record {
   vector = λ k. listVector (w .action) (w .matches);
 }
 
--- 9: a bad word anywhere in the map. 10: word 0 alone
-abbrev pub mapReasons : ℕ → Work → List Reason
-mapReasons n w = 9 when badWords (w .map) ∷ 10 when someExceeds n (λ k. w .dof) (lookup (w .map)) 1 ∷ []
+-- of one frame, that of word 0
+abbrev pub listMap : ℕ → Work → List Reason
+listMap n w = mapReasons (w .map) 1 (w .dof) n
 
 -- of a Hessian of m cells and a gradient of n
 unfoldable pub accumulateRefusal : ℕ → ℕ → Work → ℕ
-accumulateRefusal m n w = firstOf (matchesReasons (w .dof) (w .matches) (badTarget (length (w .map)) m n) (w .action) ++ mapReasons n w)
+accumulateRefusal m n w = firstOf (matchesReasons (w .dof) (w .matches) (badTarget (length (w .map)) m n) (w .action) ++ listMap n w)
 
 unfoldable pub matchesCall : ℕ → ℕ → Work → Call
 matchesCall m n w = judged (accumulateRefusal m n w) (framed n (listCost (w .action) (w .matches)) (framesOf w))
@@ -61,11 +61,11 @@ matches-numbered dof ms misfit x =
 
 -- the map's reasons come after the list's
 pub map-last : (m n : ℕ) (w : Work)
-    → accumulateRefusal m n w ≡ orElse (matchesRefusal (w .dof) (w .matches) (badTarget (length (w .map)) m n) (w .action)) (firstOf (mapReasons n w))
+    → accumulateRefusal m n w ≡ orElse (matchesRefusal (w .dof) (w .matches) (badTarget (length (w .map)) m n) (w .action)) (firstOf (listMap n w))
 unfolding accumulateRefusal matchesRefusal
 map-last m n w =
     let misfit = badTarget (length (w .map)) m n in
-    first-append (matchesReasons (w .dof) (w .matches) misfit (w .action)) (mapReasons n w) (matches-numbered (w .dof) (w .matches) misfit (w .action))
+    first-append (matchesReasons (w .dof) (w .matches) misfit (w .action)) (listMap n w) (matches-numbered (w .dof) (w .matches) misfit (w .action))
 
 -- what is known of a call that is accepted
 pub record Accepted (m n : ℕ) (w : Work) : Type 0 where
@@ -74,11 +74,11 @@ pub record Accepted (m n : ℕ) (w : Work) : Type 0 where
 
 pub accepted-list : (m n : ℕ) (w : Work) → accumulateRefusal m n w ≡ 0 → Accepted m n w
 accepted-list m n w e =
-    let both = neither (matchesRefusal (w .dof) (w .matches) (badTarget (length (w .map)) m n) (w .action)) (firstOf (mapReasons n w)) (sym (map-last m n w) ∙ e) in
-    let nine = not-first 8 (badWords (w .map)) (10 when someExceeds n (λ k. w .dof) (lookup (w .map)) 1 ∷ []) (both .1) in
+    let both = neither (matchesRefusal (w .dof) (w .matches) (badTarget (length (w .map)) m n) (w .action)) (firstOf (listMap n w)) (sym (map-last m n w) ∙ e) in
+    let nine = none (badWords (w .map)) 8 _ (both .1) in
     record {
       square = square (length (w .map)) m n (fit (w .dof) (w .matches) _ (w .action) (both .0) .fits) .1;
-      fits = not-first 9 (someExceeds n (λ k. w .dof) (lookup (w .map)) 1) [] (nine .1) .0;
+      fits = none (someExceeds n (λ k. w .dof) (lookup (w .map)) 1) 9 0 (nine .1) .0;
     }
 
 -- WHAT THE THEOREM OVER LISTS OF CALLS ASKS: the call adds to cells of its own segment alone
@@ -95,8 +95,8 @@ module _ (m n : ℕ) (w : Work) (misfit : Bool) (why : ℕ) (shape : misfit ≡ 
   pub list-refuses : (why ≡ 0 → ⊥) → why ≡ accumulateRefusal m n w
   list-refuses no-zero = sym (map-last m n w ∙ orElse-some _ _ why (sym same) no-zero)
 
-  pub map-decides : why ≡ 0 → accumulateRefusal m n w ≡ firstOf (mapReasons n w)
-  map-decides e = map-last m n w ∙ ap (λ (k : ℕ). orElse k (firstOf (mapReasons n w))) (sym same ∙ e)
+  pub map-decides : why ≡ 0 → accumulateRefusal m n w ≡ firstOf (listMap n w)
+  map-decides e = map-last m n w ∙ ap (λ (k : ℕ). orElse k (firstOf (listMap n w))) (sym same ∙ e)
 
 -- ---- the ways out: refused, and one frame added
 pub accumulated-no : (m n : ℕ) (w : Work) (h g : List Float) (x : Float) (k : ℕ) → k ≡ accumulateRefusal m n w → (k ≡ 0 → ⊥) → Accumulated (matchesCall m n w) h g x k h g x

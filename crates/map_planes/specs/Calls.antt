@@ -1,20 +1,19 @@
 -- Why a call on a match list is turned away, as far as the list and its action go; and what a call may rely on where it is not. Assumes nothing.
 use Prim.Native.Nat.{ℕ, _*_, _%_, _≤_}
-use mathlib.Core.Path.{_≡_, refl, sym, _∙_}
-use mathlib.Core.Bool.{Bool, true, false, not, _||_}
+use mathlib.Core.Path.{_≡_, sym, _∙_}
+use mathlib.Core.Bool.{Bool, false, not, _||_}
 use mathlib.Core.List.{List, [], _∷_, _++_}
 use native.Mathlib.Omega.{arith}
 use lib.Dec.{ltb, eqb}
 use lib.ListN.{length}
 use lib.Ieee.{Float}
 use borrow.Author.Tests.{ltb-false, eqb-true, not-false}
-use Rattle.refusals.specs.Refusal.{Reason, _when_, firstOf}
+use Rattle.refusals.specs.Refusal.{Reason, _when_, firstOf, none, either-none}
 use Rattle.terms.specs.Terms.{upto}
-use Rattle.derivative.specs.Action.{actionSize}
+use Rattle.derivative.specs.Action.{actionSize, mostDof}
 use Rattle.map_plane.specs.Match.{MATCH, matchAt, matchReasons}
-use Rattle.map_plane.specs.Linearize.{mostDof}
 use Rattle.match_sums.specs.Groups.{matchCount}
-use Rattle.map_planes.specs.Reasons.{Numbered, first-append, parts-numbered, orElse, neither, not-first, suc-no}
+use Rattle.map_planes.specs.Reasons.{Numbered, first-append, parts-numbered, orElse, neither, suc-no}
 
 -- the most matches of a list
 abbrev pub mostMatches : ℕ
@@ -59,20 +58,16 @@ pub record Fit (dof : ℕ) (ms : List Float) (misfit : Bool) (x : List Float) : 
   pub fits : misfit ≡ false
   pub action-size : length x ≡ actionSize
 
-either-none : (a b : Bool) → (a || b) ≡ false → (a ≡ false) × (b ≡ false)
-either-none true b h = (h, cc)
-either-none false b h = (refl, h)
-
 pub fit : (dof : ℕ) (ms : List Float) (misfit : Bool) (x : List Float) → matchesRefusal dof ms misfit x ≡ 0 → Fit dof ms misfit x
 unfolding matchesRefusal badMatches
 fit dof ms misfit x h =
     let last = 8 when not (eqb (length x) actionSize) ∷ [] in
     let rest = listReasons ms ++ last in
-    let one = not-first 0 (ltb mostDof dof) (2 when eqb (length ms) 0 ∷ 3 when (badMatches ms || misfit) ∷ rest) h in
-    let two = not-first 1 (eqb (length ms) 0) (3 when (badMatches ms || misfit) ∷ rest) (one .1) in
-    let three = not-first 2 (badMatches ms || misfit) rest (two .1) in
+    let one = none (ltb mostDof dof) 0 _ h in
+    let two = none (eqb (length ms) 0) 1 _ (one .1) in
+    let three = none (badMatches ms || misfit) 2 (firstOf rest) (two .1) in
     let list = neither (firstOf (listReasons ms)) (firstOf last) (sym (list-first ms last) ∙ three .1) in
-    let eight = not-first 7 (not (eqb (length x) actionSize)) [] (list .1) in
+    let eight = none (not (eqb (length x) actionSize)) 7 0 (list .1) in
     let shape = either-none (badMatches ms) misfit (three .0) in
     let records = either-none (not (eqb (length ms % MATCH) 0)) (ltb mostMatches (matchCount ms)) (shape .0) in
     let exact : length ms % MATCH ≡ 0 = eqb-true (length ms % MATCH) 0 (not-false (eqb (length ms % MATCH) 0) (records .0)) in

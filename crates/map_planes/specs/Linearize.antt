@@ -1,7 +1,7 @@
 -- The call that linearizes a match list: a residual a match, and the Jacobian of a row a match, by columns. Assumes nothing.
 use Prim.Native.Nat.{ℕ, zero, suc, _+_, _*_, _%_, _/_, _<_}
 use mathlib.Core.Path.{_≡_, refl, sym, ap, _∙_}
-use mathlib.Core.Bool.{Bool, true, false, not, _||_, _&&_, cond}
+use mathlib.Core.Bool.{Bool, false, not, _||_, _&&_, cond}
 use mathlib.Core.Logic.{⊎-elim}
 use mathlib.Core.List.{List}
 use native.Mathlib.Numerals.{add-one}
@@ -12,7 +12,7 @@ use lib.ListN.{length, set, length-set}
 use lib.Seq.{ext-getD, getD-set-same, getD-set-other}
 use lib.Ieee.{Float, nan}
 use borrow.Author.Tests.{eqb-true, ne-eqb, not-false}
-use Rattle.refusals.specs.Refusal.{Answered}
+use Rattle.refusals.specs.Refusal.{Answered, either-none, not-both}
 use Rattle.sums.specs.Sum.{tab, grid, at}
 use Rattle.sums.specs.Laws.{length-tab, getD-tab, length-grid, at-grid, off-add}
 use Rattle.sums.specs.Fill.{First}
@@ -115,18 +115,10 @@ pub first-all : (n : ℕ) (l : List Float) (f : ℕ → Float) → length l ≡ 
 first-all n l f e h = ext-getD nan l (tab n f) (e ∙ sym (length-tab n f)) (λ k m. let w : k < n = omega arith in h k w ∙ sym (getD-tab n f k w))
 
 -- what the call may rely on where the outputs are not misshapen
-neither-one : (a b : Bool) → (a || b) ≡ false → (a ≡ false) × (b ≡ false)
-neither-one true b h = (h, cc)
-neither-one false b h = (refl, h)
-
-not-both : (a b : Bool) → a ≡ false → (not a && not b) ≡ false → b ≡ true
-not-both a true e h = refl
-not-both a false e h = sym (rw e at h)
-
 pub good-outputs : (n dof residuals cells : ℕ) → badOutputs n dof residuals cells ≡ false → (residuals ≡ n) × ((cells ≡ 0 → ⊥) → cells ≡ dof * n)
 unfolding badOutputs
 good-outputs n dof residuals cells h =
-    let p = neither-one (not (eqb residuals n)) (not (eqb cells 0) && not (eqb cells (dof * n))) h in
+    let p = either-none (not (eqb residuals n)) (not (eqb cells 0) && not (eqb cells (dof * n))) h in
     (eqb-true residuals n (not-false (eqb residuals n) (p .0)), λ some. eqb-true cells (dof * n) (not-both (eqb cells 0) (eqb cells (dof * n)) (ne-eqb cells 0 some) (p .1)))
 
 -- the call's tests as code makes them

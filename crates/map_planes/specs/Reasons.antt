@@ -1,13 +1,13 @@
 -- Ordered reasons in parts: the first that applies is in the first part that has one. Assumes nothing.
 use Prim.Native.Nat.{ℕ, zero, suc, _+_, _<_}
-use mathlib.Core.Path.{_≡_, refl, sym, ap, _∙_}
-use mathlib.Core.Bool.{Bool, true, false, cond, not}
+use mathlib.Core.Path.{_≡_, refl, sym, _∙_}
+use mathlib.Core.Bool.{Bool, true, false, cond}
 use mathlib.Core.Logic.{⊎-elim}
 use mathlib.Core.List.{List, [], _∷_, _++_}
 use native.Mathlib.Numerals.{add-one}
 use native.Mathlib.Nat.{eq-or-lt-of-le, le-of-suc-le-suc, not-suc-le-zero}
 use native.Mathlib.Omega.{arith}
-use Rattle.refusals.specs.Refusal.{Reason, _when_, firstOf}
+use Rattle.refusals.specs.Refusal.{Reason, firstOf}
 use Rattle.terms.specs.Terms.{upto}
 use Rattle.call_lists.specs.Lists.{Every, every-upto}
 
@@ -57,10 +57,6 @@ module _ (f : ℕ → List Reason) (numbered : (k : ℕ) → Numbered (f k)) whe
 -- ---- what is known where no reason applies
 pub suc-no : (k : ℕ) → suc k ≡ 0 → ⊥
 suc-no k q = omega arith
-
-pub not-first : (k : ℕ) (t : Bool) (rs : List Reason) → firstOf (suc k when t ∷ rs) ≡ 0 → (t ≡ false) × (firstOf rs ≡ 0)
-not-first k true rs h = absurd (suc-no k h)
-not-first k false rs h = (refl, h)
 
 pub neither : (a b : ℕ) → orElse a b ≡ 0 → (a ≡ 0) × (b ≡ 0)
 neither zero b h = (refl, h)

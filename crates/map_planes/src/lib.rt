@@ -17,15 +17,13 @@ ghost use Rattle.call_lists.specs.Accumulated.{Accumulated};
 ghost use Rattle.map_planes.specs.Calls.{badMatches, listReasons, matchesRefusal};
 ghost use Rattle.map_planes.specs.Accumulate.{matchesCall};
 ghost use Rattle.map_planes.specs.Linearize.{badOutputs, residuals, Linearized, Placed};
+use derivative::ACTION;
+use derivative::MOST_DOF;
 use map_plane::MATCH;
-use map_plane::MOST_DOF;
 use normal_blocks::Place;
 
 // The most matches of a list.
 pub const MOST_MATCHES: usize = 65536;
-
-// How many numbers an action is.
-pub const ACTION: usize = 120;
 
 // 3: the list is not whole matches, or has too many.
 fn bad_matches(list: &[f64]) -> bool
@@ -123,12 +121,10 @@ pub fn accumulate(
     if why != 0 {
         return why;
     }
-    if normal_blocks::bad_words(map) {
-        return 9;
-    }
     let width = dof as usize;
-    if normal_blocks::some_exceeds(map, 1, width, n) {
-        return 10;
+    let bad = normal_blocks::map_refusal(map, 1, width, n);
+    if bad != 0 {
+        return bad;
     }
     *cost = add_list(width, matches, action, map, hessian, gradient);
     0

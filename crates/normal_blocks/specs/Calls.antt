@@ -1,13 +1,13 @@
 -- Why a call is refused, as far as maps and targets go: the shape of a target, and the host's call `remap`. Assumes nothing.
 use Prim.Native.Nat.{ℕ, _*_, _≤_}
-use mathlib.Core.Path.{_≡_, refl}
-use mathlib.Core.Bool.{Bool, true, false, not, _||_}
+use mathlib.Core.Path.{_≡_}
+use mathlib.Core.Bool.{Bool, false, not, _||_}
 use mathlib.Core.List.{List, [], _∷_}
 use lib.Dec.{ltb, eqb}
 use lib.ListN.{length}
 use borrow.Author.Tests.{ltb-false, eqb-true, not-false}
-use Rattle.refusals.specs.Refusal.{_when_, firstOf, wrongLength}
-use Rattle.normal_blocks.specs.Map.{badWords}
+use Rattle.refusals.specs.Refusal.{Reason, _when_, firstOf, wrongLength, either-none}
+use Rattle.normal_blocks.specs.Map.{lookup, badWords, someExceeds}
 
 -- the most words of a map, and so of an index list, which makes one
 abbrev pub MOST_WORDS : ℕ
@@ -22,16 +22,20 @@ unfoldable pub badTarget : ℕ → ℕ → ℕ → Bool
 badTarget words cells n = ltb MOST_WORDS words || (ltb MOST_ROWS n || not (eqb cells (n * n)))
 
 -- what a call may rely on where the test does not apply
-either-none : (a b : Bool) → (a || b) ≡ false → (a ≡ false) × (b ≡ false)
-either-none true b h = (h, cc)
-either-none false b h = (refl, h)
-
 pub square : (words cells n : ℕ) → badTarget words cells n ≡ false → (n ≤ MOST_ROWS) × (cells ≡ n * n)
 unfolding badTarget
 square words cells n h =
     let p = either-none (ltb MOST_ROWS n) _ (either-none (ltb MOST_WORDS words) _ h .1) in
     (ltb-false MOST_ROWS n (p .0), eqb-true cells (n * n) (not-false _ (p .1)))
 
+-- 9, of every word of the map; and 10, of the words of the frames that exist: the last tests of a call that accumulates `count` frames
+abbrev pub mapReasons : List ℕ → ℕ → ℕ → ℕ → List Reason
+mapReasons map count width n = 9 when badWords map ∷ 10 when someExceeds n (λ k. width) (lookup map) count ∷ []
+
+unfoldable pub mapRefusal : List ℕ → ℕ → ℕ → ℕ → ℕ
+mapRefusal map count width n = firstOf (mapReasons map count width n)
+
+-- remapping tests 3 and 9, the words of the map and those of the list
 unfoldable pub remapRefusal : List ℕ → List ℕ → List ℕ → ℕ
 remapRefusal m list out =
     firstOf

@@ -6,7 +6,7 @@ ghost use mathlib.Core.Bool.{false};
 ghost use lib.ListN.{length};
 ghost use Rattle.refusals.specs.Refusal.{Answered};
 ghost use Rattle.normal_blocks.specs.Map.{placeOf, badWord, badWords, wordAt, lookup, remapped, exceeds, someExceeds};
-ghost use Rattle.normal_blocks.specs.Calls.{badTarget, remapRefusal};
+ghost use Rattle.normal_blocks.specs.Calls.{badTarget, mapRefusal, remapRefusal};
 
 // The word of a frame that goes nowhere.
 pub const UNMAPPED: u32 = 0x4000_0000;
@@ -105,6 +105,19 @@ pub fn bad_target(words: usize, cells: usize, n: usize) -> bool
         return true;
     }
     cells != n * n
+}
+
+// Reasons 9 and 10: the map's words, and where they put the frames that exist.
+pub fn map_refusal(map: &[u32], count: usize, width: usize, n: usize) -> u32
+    ensures { λ r. ⌜ r ≡ mapRefusal (now (map .entry)) count width n ⌝ }
+{
+    if bad_words(map) {
+        return 9;
+    }
+    if some_exceeds(map, count, width, n) {
+        return 10;
+    }
+    0
 }
 
 // The word that a word of an index list becomes.

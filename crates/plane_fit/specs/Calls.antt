@@ -1,6 +1,6 @@
 -- Why a call on frames is refused, as far as frames, fixed set and actions go; and the call that asks for the fit's mean and scatter. Assumes nothing.
 use mathlib.Core.Path.{_≡_, refl, _∙_}
-use mathlib.Core.Bool.{Bool, true, false, not, _||_}
+use mathlib.Core.Bool.{Bool, false, not, _||_}
 use mathlib.Core.Logic.{_⊎_, inl, inr}
 use mathlib.Core.List.{List, [], _∷_}
 use Prim.Native.Nat.{ℕ, zero, suc, _*_, _/_, _%_, _≤_}
@@ -10,17 +10,14 @@ use lib.Dec.{ltb, eqb}
 use lib.ListN.{length}
 use lib.Ieee.{Float}
 use borrow.Author.Tests.{le-ltb, eq-eqb, ltb-false, eqb-true, not-false}
-use Rattle.refusals.specs.Refusal.{_when_, firstOf}
-use Rattle.derivative.specs.Action.{actionSize}
+use Rattle.refusals.specs.Refusal.{_when_, firstOf, either-none}
+use Rattle.derivative.specs.Action.{actionSize, mostDof}
 use Rattle.point_moments.specs.Scatter.{CENTRED}
 use Rattle.plane_fit.specs.Fit.{frameCount, Shaped}
 
--- the most frames of a plane, and the most columns of an action
+-- the most frames of a plane
 abbrev pub mostFrames : ℕ
 mostFrames = 256
-
-abbrev pub mostDof : ℕ
-mostDof = 9
 
 -- 3: a list is not whole records of so many numbers, or has more than so many
 unfoldable pub badRecords : ℕ → ℕ → List Float → Bool
@@ -51,10 +48,6 @@ fitRefusal dof frames fixed actions out =
     8 when badActions frames actions ∷ [])
 
 -- ---- what a call may rely on where no test applies
-
-either-none : (a b : Bool) → (a || b) ≡ false → (a ≡ false) × (b ≡ false)
-either-none true b h = (h, cc)
-either-none false b h = (refl, h)
 
 pub whole-records : (size most : ℕ) (list : List Float) → badRecords size most list ≡ false → (length list ≡ size * (length list / size)) × (length list / size ≤ most)
 unfolding badRecords

@@ -14,13 +14,10 @@ ghost use Rattle.plane_fit.specs.Records.{recordOf};
 ghost use Rattle.plane_fit.specs.Fit.{Shaped, centre, turned, spread, fitMean, scatterAbout, fitList};
 ghost use Rattle.plane_fit.specs.Calls.{badRecords, badFrames, badFixed, badCount, badActions, fitRefusal};
 ghost use Rattle.plane_fit.specs.Steps.{withSet, weighed, difference, spreadUpto, meanOf};
+use derivative::ACTION;
+use derivative::MOST_DOF;
 use point_moments::scatter::CENTRED;
 use point_moments::scatter::Centred;
-
-// How many numbers an action is, and the most columns that one has.
-pub const ACTION: usize = 120;
-
-pub const MOST_DOF: u32 = 9;
 
 // The most frames of one plane.
 pub const MOST_FRAMES: usize = 256;

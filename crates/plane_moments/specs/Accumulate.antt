@@ -1,36 +1,33 @@
 -- Accumulating frames: the call as the book of many calls on one Hessian has it, from its own inputs and the two lengths. Definitions, and what an accepted
 -- call is known by; assumes nothing.
-use Prim.Native.Nat.{ℕ, suc}
+use Prim.Native.Nat.{ℕ}
 use native.Mathlib.Nat.{le-of-eq}
-use native.Mathlib.Omega.{arith}
-use mathlib.Core.Path.{_≡_, refl, sym, ap, subst, _∙_}
-use mathlib.Core.Logic.{_⊎_}
-use mathlib.Core.Bool.{Bool, true, false, not, _||_, cond}
+use mathlib.Core.Path.{_≡_, sym, ap, _∙_}
+use mathlib.Core.Bool.{Bool, false, not, _||_}
 use mathlib.Core.List.{List, [], _∷_}
 use lib.Dec.{ltb, eqb}
 use lib.ListN.{length}
 use lib.Ieee.{Float}
 use borrow.Author.Tests.{ltb-false, eqb-true, not-false}
-use Rattle.refusals.specs.Refusal.{Reason, _when_, firstOf}
+use Rattle.refusals.specs.Refusal.{_when_, firstOf, none, either-none}
 use Rattle.sums.specs.Sum.{zeroF}
 use Rattle.validate.specs.Finite.{finitePositive}
 use Rattle.decomposition.specs.Axes.{DECOMPOSITION}
 use Rattle.normal_blocks.specs.Map.{lookup, badWords, someExceeds}
-use Rattle.normal_blocks.specs.Calls.{badTarget, square}
+use Rattle.normal_blocks.specs.Calls.{mapReasons, badTarget, square}
 use Rattle.call_lists.specs.Calls.{Call, judged, Tame}
 use Rattle.call_lists.specs.Frames.{Frames, framed, idle}
 use Rattle.call_lists.specs.FrameLaws.{framed-tame, idle-tame, judged-tame}
 use Rattle.call_lists.specs.Accumulated.{Accumulated, accumulated-refused, accumulated-idle, accumulated-framed}
 use Rattle.plane_fit.specs.Fit.{Shaped, frameCount, fitMean}
-use Rattle.plane_fit.specs.Calls.{mostDof, badFrames, badFixed, badActions, one-each, shaped}
+use Rattle.plane_fit.specs.Calls.{badFrames, badFixed, badActions, one-each, shaped}
 use Rattle.point_moments.specs.Scatter.{CENTRED}
-use Rattle.derivative.specs.Action.{actionSize}
+use Rattle.derivative.specs.Action.{actionSize, mostDof}
 use Rattle.plane_fit.specs.Axis.{smallestAxis}
 use Rattle.plane_fit.specs.declared.axis.Fit.{Fit}
 use Rattle.plane_fit.specs.declared.axis.Fit.the-variants.{Plane, NoPlane}
 use Rattle.frame_cost.specs.Cost.{weightOf, framesCost}
 use Rattle.frame_blocks.specs.Frames.{framesUnder, Ready, AllAdded}
-use Rattle.plane_moments.specs.Tests.{none, either-none}
 
 -- "A call's own inputs are all that is handed to it"
 pub record FramesWork : Type 0 where
@@ -59,13 +56,6 @@ work dof frames fixed sigma actions decomposition map = record {
 unfoldable pub badLengths : List Float → List Float → List ℕ → ℕ → ℕ → ℕ → Bool
 badLengths frames fixed decomposition words m n =
     badFrames frames || (badFixed fixed || (not (eqb (length decomposition) DECOMPOSITION) || badTarget words m n))
-
--- 9, and 10: a mapped frame's offset plus dof exceeds n
-abbrev pub mapReasons : List ℕ → ℕ → ℕ → ℕ → List Reason
-mapReasons map count dof n = 9 when badWords map ∷ 10 when someExceeds n (λ k. dof) (lookup map) count ∷ []
-
-unfoldable pub mapRefusal : List ℕ → ℕ → ℕ → ℕ → ℕ
-mapRefusal map count dof n = firstOf (mapReasons map count dof n)
 
 -- "accumulating tests 1, 2, 3, 7, 8, 9, 10"
 unfoldable pub framesRefusal : ℕ → ℕ → FramesWork → ℕ

@@ -12,17 +12,17 @@ use lib.ListN.{length, getD}
 use lib.Ieee.{Float, nan, inf, fin, le, lt, eq, ofBits, ofFields, odd, up, down}
 use lib.Ieee.Scale.{finite}
 use borrow.Author.Tests.{lt-ltb, eq-eqb, ltb-false, eqb-false, not-false}
-use Rattle.refusals.specs.Refusal.{_when_, firstOf, Answered}
+use Rattle.refusals.specs.Refusal.{_when_, firstOf, Answered, none, either-none}
 use Rattle.sums.specs.Sum.{zeroF}
 use Rattle.validate.specs.Finite.{allFinite, finitePositive}
 use Rattle.validate.proofs.Laws.{finite-at}
 use Rattle.normal_blocks.specs.Somewhere.{nowhere-at}
 use Rattle.point_moments.specs.Moments.{MOMENTS}
 use Rattle.point_moments.specs.Scatter.{CENTRED, hasMean}
-use Rattle.plane_fit.specs.Calls.{mostFrames, mostDof, badRecords, badCount, at-most-one, one-each}
+use Rattle.derivative.specs.Action.{mostDof}
+use Rattle.plane_fit.specs.Calls.{mostFrames, badRecords, badCount, at-most-one, one-each}
 use Rattle.plane_fit.specs.Records.{whole, record-at}
 use Rattle.frame_sets.specs.Sets.{setCount, setAt, countAt, emptyAt, someEmpty, tooFew, notFinite, dropped, centredFrames, centredFixed, points}
-use Rattle.plane_moments.specs.Tests.{none, either-none}
 
 -- 3: the frames are whole sets, at most 256; the fixed set is nothing or one set; each output is one centred set for each set of its input. So the
 -- output of a fixed set is CENTRED numbers, and empty where no set is handed in: a set and a centred set are as long only by accident.

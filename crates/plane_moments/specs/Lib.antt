@@ -1,4 +1,3 @@
-pub mod Tests
 pub mod Accumulate
 pub mod Build
 pub mod Linearize

@@ -1,8 +1,8 @@
 -- Linearizing frames: why the call is refused, and the residuals and the Jacobian that it leaves where it is not. Definitions, and what an accepted call is
 -- known by; assumes nothing.
 -- frames, fixed: centred sets; ds: the decompositions by their bit patterns, the fit's, one a frame, and the fixed set's if there is one.
-use Prim.Native.Nat.{ℕ, zero, suc, _+_, _*_, _≤_}
-use native.Mathlib.Nat.{mul-comm, mul-zero, zero-mul}
+use Prim.Native.Nat.{ℕ, _+_, _*_, _≤_}
+use native.Mathlib.Nat.{mul-zero, zero-mul}
 use native.Mathlib.Omega.{arith}
 use mathlib.Core.Path.{_≡_, refl, sym, ap, ap₂, _∙_}
 use mathlib.Core.Bool.{Bool, true, false, not, _||_, _&&_, cond}
@@ -10,21 +10,20 @@ use mathlib.Core.List.{List, [], _∷_}
 use lib.Dec.{ltb, eqb}
 use lib.ListN.{length, replicate}
 use lib.Ieee.{Float, binary64, div}
-use borrow.Author.Tests.{ltb-false, eqb-true, eqb-false, ne-eqb, not-false}
-use Rattle.refusals.specs.Refusal.{_when_, firstOf, Answered, accepted}
+use borrow.Author.Tests.{ltb-false, eqb-true, ne-eqb, not-false}
+use Rattle.refusals.specs.Refusal.{_when_, firstOf, Answered, accepted, none, either-none}
 use Rattle.sums.specs.Sum.{zeroF}
 use Rattle.validate.specs.Finite.{finitePositive}
 use Rattle.decomposition.specs.Axes.{DECOMPOSITION}
 use Rattle.plane_fit.specs.Axis.{one, smallestAxis}
 use Rattle.plane_fit.specs.Fit.{Shaped, frameCount, fitMean}
-use Rattle.plane_fit.specs.Calls.{mostDof, badFrames, badFixed, badActions, whole-fixed, one-each, shaped}
+use Rattle.plane_fit.specs.Calls.{badFrames, badFixed, badActions, whole-fixed, one-each, shaped}
 use Rattle.plane_fit.specs.declared.axis.Fit.{Fit}
 use Rattle.plane_fit.specs.declared.axis.Fit.the-variants.{Plane, NoPlane}
 use Rattle.point_moments.specs.Scatter.{CENTRED}
-use Rattle.derivative.specs.Action.{actionSize}
+use Rattle.derivative.specs.Action.{actionSize, mostDof}
 use Rattle.frame_rows.specs.Rows.{decompositionAt, residualOf, jacobianOf, rowCount}
 use Rattle.frame_rows.specs.Steps.{Room, FixedRoom}
-use Rattle.plane_moments.specs.Tests.{none, either-none}
 
 -- ---- why it is refused, by the lengths of what is handed in
 

@@ -3,8 +3,8 @@ ghost use mathlib.Core.Path.{_≡_};
 ghost use mathlib.Core.List.{List};
 ghost use lib.ListN.{length};
 ghost use Rattle.call_lists.specs.Accumulated.{Accumulated};
-ghost use Rattle.plane_moments.specs.Accumulate.{FramesWork, badLengths, mapRefusal, framesRefusal, framesCall, work};
-use plane_fit::MOST_DOF;
+ghost use Rattle.plane_moments.specs.Accumulate.{FramesWork, badLengths, framesRefusal, framesCall, work};
+use derivative::MOST_DOF;
 use plane_fit::axis::Fit;
 use point_moments::scatter::CENTRED;
 
@@ -32,19 +32,6 @@ fn bad_lengths(
         return true;
     }
     normal_blocks::bad_target(words, cells, n)
-}
-
-// 9 and 10: the map's words, and where they put the frames that exist.
-fn map_refusal(map: &[u32], count: usize, dof: u32, n: usize) -> u32
-    ensures { λ r. ⌜ r ≡ mapRefusal (now (map .entry)) count dof n ⌝ }
-{
-    if normal_blocks::bad_words(map) {
-        return 9;
-    }
-    if normal_blocks::some_exceeds(map, count, dof as usize, n) {
-        return 10;
-    }
-    0
 }
 
 // The number of the reason to refuse, or 0.
@@ -76,7 +63,7 @@ fn refusal(
     if plane_fit::bad_actions(frames, actions) {
         return 8;
     }
-    map_refusal(map, frames.len() / CENTRED, dof, n)
+    normal_blocks::map_refusal(map, frames.len() / CENTRED, dof as usize, n)
 }
 
 // The host's call. The number of the reason to refuse, or 0.
@@ -94,8 +81,9 @@ pub fn accumulate(
 ) -> u32
     ensures { λ r. ⌜ Accumulated (framesCall (length (now (hessian .entry))) (length (now (gradient .entry))) (work dof (now (frames .entry)) (now (fixed .entry)) sigma (now (actions .entry)) (now (decomposition .entry)) (now (map .entry)))) (now (hessian .entry)) (now (gradient .entry)) (now (cost .entry)) r (now (hessian .exit)) (now (gradient .exit)) (now (cost .exit)) ⌝ }
 {
+    let cells = hessian.len();
     let n = gradient.len();
-    let refusal = refusal(
+    let why = refusal(
         dof,
         frames,
         fixed,
@@ -103,11 +91,11 @@ pub fn accumulate(
         actions,
         decomposition,
         map,
-        hessian.len(),
+        cells,
         n,
     );
-    if refusal != 0 {
-        return refusal;
+    if why != 0 {
+        return why;
     }
     let mean = plane_fit::fit_mean(frames, fixed, actions);
     match plane_fit::axis::smallest_axis(decomposition, mean) {

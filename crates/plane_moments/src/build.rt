@@ -1,7 +1,7 @@
 // Building a frame factor: its moments tested and centred.
 ghost use mathlib.Core.Path.{_≡_};
 ghost use Rattle.plane_moments.specs.Build.{badShapes, buildRefusal, Builds};
-use plane_fit::MOST_DOF;
+use derivative::MOST_DOF;
 use plane_fit::MOST_FRAMES;
 use point_moments::MOMENTS;
 use point_moments::scatter::CENTRED;

@@ -2,10 +2,11 @@
 ghost use mathlib.Core.Path.{_≡_};
 ghost use Prim.Native.Nat.{_≤_};
 ghost use lib.ListN.{length};
-ghost use Rattle.plane_fit.specs.Calls.{mostFrames, mostDof};
+ghost use Rattle.derivative.specs.Action.{mostDof};
+ghost use Rattle.plane_fit.specs.Calls.{mostFrames};
 ghost use Rattle.plane_moments.specs.Linearize.{badDecompositions, badOutputs, badLengths, wanted, linearizeRefusal, Linearizes};
 use decomposition::DECOMPOSITION;
-use plane_fit::MOST_DOF;
+use derivative::MOST_DOF;
 use plane_fit::axis::Fit;
 use point_moments::scatter::CENTRED;
 

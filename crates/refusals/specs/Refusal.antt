@@ -1,8 +1,9 @@
 -- Why a call is turned away: its tests in order, each with its number, and what a call leaves in what it was lent. Assumes nothing.
 use Prim.Native.Nat.{ℕ, zero, suc}
 use mathlib.Core.Path.{_≡_, refl, sym}
-use mathlib.Core.Bool.{Bool, true, false, not, _||_, cond}
+use mathlib.Core.Bool.{Bool, true, false, not, _||_, _&&_, cond}
 use mathlib.Core.List.{List, [], _∷_}
+use native.Mathlib.Omega.{arith}
 use lib.Dec.{eqb}
 
 -- a reason to turn a call away: document 01's number, and whether it applies
@@ -48,3 +49,16 @@ refused-by {k = suc k} e n = refused e
 
 pub accepted : {A : Type 0} {refusal : ℕ} {old left new : A} → refusal ≡ 0 → left ≡ new → Answered refusal 0 old left new
 accepted e w = record { number-is = sym e; left-is = rw e w }
+
+-- ---- what is known where a call is accepted: its first reason does not apply, nor any of the others; of two tests neither; of two lengths one fits
+pub none : (b : Bool) (k rest : ℕ) → cond b (suc k) rest ≡ 0 → (b ≡ false) × (rest ≡ 0)
+none true k rest h = absurd (omega arith)
+none false k rest h = (refl, h)
+
+pub either-none : (a b : Bool) → (a || b) ≡ false → (a ≡ false) × (b ≡ false)
+either-none true b h = (h, cc)
+either-none false b h = (refl, h)
+
+pub not-both : (a b : Bool) → a ≡ false → (not a && not b) ≡ false → b ≡ true
+not-both a true e h = refl
+not-both a false e h = sym (rw e at h)

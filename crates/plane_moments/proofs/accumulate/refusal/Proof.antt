@@ -2,7 +2,8 @@
 use mathlib.Core.Path.{sym, ap, _∙_}
 use mathlib.Core.Bool.{not}
 use borrow.Author.Tests.{lt-ltb, le-ltb, eq-eqb, ne-eqb}
-use Rattle.plane_moments.specs.Accumulate.{mapRefusal, framesRefusal}
+use Rattle.normal_blocks.specs.Calls.{mapRefusal}
+use Rattle.plane_moments.specs.Accumulate.{framesRefusal}
 use Rattle.plane_moments.proofs.accumulate.refusal.Statement.{statement}
 use Rattle.plane_moments.proofs.accumulate.refusal.Tie as tie
 

@@ -1,8 +1,8 @@
--- `plane_moments::accumulate::map_refusal` meets its contract: the two tests in their order. Assumes nothing.
+-- `normal_blocks::map_refusal` meets its contract: the two tests in their order. Assumes nothing.
 use mathlib.Core.Path.{sym, _∙_}
-use Rattle.plane_moments.specs.Accumulate.{mapRefusal}
-use Rattle.plane_moments.proofs.accumulate.map_refusal.Statement.{statement}
-use Rattle.plane_moments.proofs.accumulate.map_refusal.Tie as tie
+use Rattle.normal_blocks.specs.Calls.{mapRefusal}
+use Rattle.normal_blocks.proofs.map_refusal.Statement.{statement}
+use Rattle.normal_blocks.proofs.map_refusal.Tie as tie
 
 returns : tie.Need-returns
 unfolding mapRefusal
