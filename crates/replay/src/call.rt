@@ -21,7 +21,7 @@ fn put_number(a: &mut [f64], x: f64) {
     }
 }
 
-// Answers no call gives: the number is in no sample.
+// What no call answers, for a number that is no call's.
 const UNKNOWN: u32 = 255;
 
 pub fn made(
@@ -38,20 +38,89 @@ pub fn made(
     v: &mut [u32],
     w: &mut [u32],
 ) -> u32 {
+    if call < 6 {
+        moments_call(call, a, b, c, d, p, u)
+    } else if call < 9 {
+        plane_call(call, a, b, c, d, e, f, g, u, v, w)
+    } else if call < 13 {
+        frames_call(call, a, b, c, d, e, f, g, p, u, v)
+    } else {
+        matches_call(call, a, b, c, d, e, f, u, v)
+    }
+}
+
+fn moments_call(
+    call: u32,
+    a: &mut [f64],
+    b: &mut [f64],
+    c: &[f64],
+    d: &mut [f64],
+    p: &[u64],
+    u: &mut [u32],
+) -> u32 {
     match call {
         0 => maghnelt::maghnelt_moments_from_points(a, b),
         1 => maghnelt::maghnelt_moments_push(a, b),
         2 => maghnelt::maghnelt_moments_merge(a, b),
         3 => maghnelt::maghnelt_moments_transformed(a, b, c, d),
         4 => mean_and_scatter(a, b, u),
-        5 => plane(a, p, b, u),
+        _ => plane(a, p, b, u),
+    }
+}
+
+fn plane_call(
+    call: u32,
+    a: &[f64],
+    b: &[f64],
+    c: &mut [f64],
+    d: &[f64],
+    e: &[f64],
+    f: &[f64],
+    g: &mut [f64],
+    u: &[u32],
+    v: &[u32],
+    w: &mut [u32],
+) -> u32 {
+    match call {
         6 => maghnelt::maghnelt_plane_new(a, first_number(b), c),
         7 => sigma(a, b, c, d, e, f, g),
-        8 => maghnelt::maghnelt_remap(u, v, w),
+        _ => maghnelt::maghnelt_remap(u, v, w),
+    }
+}
+
+fn frames_call(
+    call: u32,
+    a: &[f64],
+    b: &[f64],
+    c: &[f64],
+    d: &mut [f64],
+    e: &mut [f64],
+    f: &mut [f64],
+    g: &mut [f64],
+    p: &[u64],
+    u: &[u32],
+    v: &mut [u32],
+) -> u32 {
+    match call {
         9 => maghnelt::maghnelt_frames_fit(first_word(u), a, b, c, d),
         10 => build(u, a, b, c, d, e, f, v),
         11 => accumulate(u, a, b, c, d, p, v, e, f, g),
-        12 => maghnelt::maghnelt_frames_linearize(first_word(u), a, b, first_number(c), d, p, e, f),
+        _ => maghnelt::maghnelt_frames_linearize(first_word(u), a, b, first_number(c), d, p, e, f),
+    }
+}
+
+fn matches_call(
+    call: u32,
+    a: &[f64],
+    b: &[f64],
+    c: &mut [f64],
+    d: &mut [f64],
+    e: &mut [f64],
+    f: &mut [f64],
+    u: &[u32],
+    v: &[u32],
+) -> u32 {
+    match call {
         13 => accumulate_matches(u, a, b, v, c, d, e),
         14 => maghnelt::maghnelt_matches_linearize(first_word(u), a, b, c, d),
         15 => match_linearize(u, a, b, c, d, e, f),

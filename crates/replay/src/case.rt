@@ -205,16 +205,30 @@ fn with_all(
     let h = head_at(sample, at);
     let answer = made(h.call, a, b, c, d, e, f, g, p, u, v, w);
     let from = later(sample, at);
-    let n = h.numbers;
     answer == h.answer
-        && are_numbers(sample, list(sample, from, n, 0), a)
+        && are_all_numbers(sample, from, h.numbers, a, b, c, d, e, f, g)
+        && are_all_words(sample, after(from, h.numbers), h.words, u, v, w)
+}
+
+fn are_all_numbers(
+    sample: &[u8],
+    from: usize,
+    n: u32,
+    a: &[f64],
+    b: &[f64],
+    c: &[f64],
+    d: &[f64],
+    e: &[f64],
+    f: &[f64],
+    g: &[f64],
+) -> bool {
+    are_numbers(sample, list(sample, from, n, 0), a)
         && are_numbers(sample, list(sample, from, n, 1), b)
         && are_numbers(sample, list(sample, from, n, 2), c)
         && are_numbers(sample, list(sample, from, n, 3), d)
         && are_numbers(sample, list(sample, from, n, 4), e)
         && are_numbers(sample, list(sample, from, n, 5), f)
         && are_numbers(sample, list(sample, from, n, 6), g)
-        && are_all_words(sample, after(from, n), h.words, u, v, w)
 }
 
 fn are_all_words(sample: &[u8], from: usize, n: u32, u: &[u32], v: &[u32], w: &[u32]) -> bool {
