@@ -5,6 +5,8 @@ ghost use mathlib.Core.Bool.{false};
 ghost use lib.ListN.{length, set};
 ghost use Rattle.refusals.specs.Refusal.{firstOf};
 ghost use Rattle.sums.specs.Sum.{grid};
+ghost use Rattle.sums.specs.Fill.{First};
+ghost use Rattle.lists.specs.Part.{_!_};
 ghost use Rattle.derivative.specs.Action.{actionSize};
 ghost use Rattle.terms.specs.Terms.{addAll};
 ghost use Rattle.normal_blocks.specs.Map.{lookup, exceeds};
@@ -144,53 +146,56 @@ fn bad_outputs(n: usize, width: usize, residuals: usize, cells: usize) -> bool
     cells != width * n
 }
 
-// The first `width` numbers of a match's row into row k of a matrix of so many rows. `t` is the action by rows.
-fn place_row(
-    t: &[f64; 108],
-    s: [f64; 3],
-    n: [f64; 3],
-    info: f64,
-    k: usize,
-    rows: usize,
-    width: usize,
-    out: &mut [f64],
-)
-    requires { ⌜ (width ≤ 9) × (k < rows) × (width * rows ≤ length (now out)) ⌝ }
-    ensures { λ _. ⌜ Placed rows width k (rowBy (now (t .entry)) s n info) (now (out .entry)) (now (out .exit)) ⌝ }
+// The first `width` numbers of a row into row k of a matrix of n rows.
+fn place_row(row: &[f64; 9], k: usize, n: usize, width: usize, out: &mut [f64])
+    requires { ⌜ (width ≤ 9) × (k < n) × (width * n ≤ length (now out)) ⌝ }
+    ensures { λ _. ⌜ Placed n width k (λ c. now (row .entry) ! c) (now (out .entry)) (now (out .exit)) ⌝ }
 {
     let mut c = 0;
     while c < width {
-        out[c * rows + k] = match_rows::entry(t, s, n, info, c);
+        out[c * n + k] = row[c];
         c += 1;
     }
 }
 
 // The same, with a copy of the code for each width.
-fn place_by(
-    t: &[f64; 108],
-    s: [f64; 3],
-    n: [f64; 3],
-    info: f64,
-    k: usize,
-    rows: usize,
-    dof: usize,
-    out: &mut [f64],
-)
-    requires { ⌜ (dof ≤ 9) × (k < rows) × (dof * rows ≤ length (now out)) ⌝ }
-    ensures { λ _. ⌜ Placed rows dof k (rowBy (now (t .entry)) s n info) (now (out .entry)) (now (out .exit)) ⌝ }
+fn place_by(row: &[f64; 9], k: usize, n: usize, dof: usize, out: &mut [f64])
+    requires { ⌜ (dof ≤ 9) × (k < n) × (dof * n ≤ length (now out)) ⌝ }
+    ensures { λ _. ⌜ Placed n dof k (λ c. now (row .entry) ! c) (now (out .entry)) (now (out .exit)) ⌝ }
 {
     match dof {
-        0 => place_row(t, s, n, info, k, rows, 0, out),
-        1 => place_row(t, s, n, info, k, rows, 1, out),
-        2 => place_row(t, s, n, info, k, rows, 2, out),
-        3 => place_row(t, s, n, info, k, rows, 3, out),
-        4 => place_row(t, s, n, info, k, rows, 4, out),
-        5 => place_row(t, s, n, info, k, rows, 5, out),
-        6 => place_row(t, s, n, info, k, rows, 6, out),
-        7 => place_row(t, s, n, info, k, rows, 7, out),
-        8 => place_row(t, s, n, info, k, rows, 8, out),
-        9 => place_row(t, s, n, info, k, rows, 9, out),
-        _ => place_row(t, s, n, info, k, rows, dof, out),
+        0 => place_row(row, k, n, 0, out),
+        1 => place_row(row, k, n, 1, out),
+        2 => place_row(row, k, n, 2, out),
+        3 => place_row(row, k, n, 3, out),
+        4 => place_row(row, k, n, 4, out),
+        5 => place_row(row, k, n, 5, out),
+        6 => place_row(row, k, n, 6, out),
+        7 => place_row(row, k, n, 7, out),
+        8 => place_row(row, k, n, 8, out),
+        9 => place_row(row, k, n, 9, out),
+        _ => place_row(row, k, n, dof, out),
+    }
+}
+
+// The first `dof` numbers of a match's row, with a copy of the code for each width; `t` is the action by rows. The sums of a list have
+// such a function too: the compiler takes each into its own loop, which it would not do with one that both share.
+fn row_by(t: &[f64; 108], s: [f64; 3], n: [f64; 3], info: f64, dof: usize, row: &mut [f64; 9])
+    requires { ⌜ (dof ≤ 9) × (length (now row) ≡ 9) ⌝ }
+    ensures { λ _. ⌜ First dof (now (row .exit)) (rowBy (now (t .entry)) s n info) ⌝ }
+{
+    match dof {
+        0 => match_rows::row_of(t, s, n, info, 0, row),
+        1 => match_rows::row_of(t, s, n, info, 1, row),
+        2 => match_rows::row_of(t, s, n, info, 2, row),
+        3 => match_rows::row_of(t, s, n, info, 3, row),
+        4 => match_rows::row_of(t, s, n, info, 4, row),
+        5 => match_rows::row_of(t, s, n, info, 5, row),
+        6 => match_rows::row_of(t, s, n, info, 6, row),
+        7 => match_rows::row_of(t, s, n, info, 7, row),
+        8 => match_rows::row_of(t, s, n, info, 8, row),
+        9 => match_rows::row_of(t, s, n, info, 9, row),
+        _ => match_rows::row_of(t, s, n, info, dof, row),
     }
 }
 
@@ -213,7 +218,9 @@ fn write_match(
     let n = [list[at + 3], list[at + 4], list[at + 5]];
     let info = 1.0 / list[at + 7];
     residual[k] = match_rows::residual(x, s, n, list[at + 6], info);
-    place_by(t, s, n, info, k, rows, dof, jacobian);
+    let mut row = [0.0; 9];
+    row_by(t, s, n, info, dof, &mut row);
+    place_by(&row, k, rows, dof, jacobian);
 }
 
 // Residuals and Jacobian.

@@ -1,5 +1,5 @@
 -- `map_planes::write_match` meets its contract: the residual stored, the row placed. Assumes nothing.
-use native.Mathlib.Omega.{arith}
+use mathlib.Core.Path.{_∙_}
 use borrow.Author.Needs.{needs}
 use Rattle.map_plane.specs.Match.{matchAt}
 use Rattle.match_rows.specs.Row.{residualAt, rowAt}
@@ -12,11 +12,12 @@ returns : tie.Need-returns
 unfolding residualAt rowAt
 returns c =
     let placed = c .before .before in
-    let read = placed .before .before in
+    let rowed = placed .before .before .before in
+    let read = rowed .before .before in
     let start = read .before .before .before .before .before .before .before .before .before .before .before .before .before in
     let a = start .args in
     let m = matchAt (a .list .now) (a .k) in
-    (rw (read .residual .ensures), placed-same _ _ _ _ _ _ _ (λ i h. row-is (a .x .now) (a .t .now) m (a .dof) i (start .pre .3) (start .pre .4) h) (placed .place-by .ensures))
+    (rw (read .residual .ensures), placed-same _ _ _ _ _ _ _ (λ i h. rowed .row-by .ensures i h ∙ row-is (a .x .now) (a .t .now) m (a .dof) i (start .pre .3) (start .pre .4) h) (placed .place-by .ensures))
 
 pub write-match-spec : {M : Type 1} → statement M
 write-match-spec =
@@ -49,6 +50,7 @@ write-match-spec =
     (λ c κs. search needs)
     (λ c. search needs)
     (λ c. search needs)
+    (λ c κs. search needs)
     (λ c κs. search needs)
     (λ c. search needs)
     (λ c. search needs)
