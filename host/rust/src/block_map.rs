@@ -38,7 +38,7 @@ impl BlockMap {
     ///
     /// # Errors
     ///
-    /// [`Refusal::LENGTH`] for more than [`MAX_WORDS`] frames; [`Refusal::MAP_WORD`] for an offset of 2^30 or more.
+    /// [`Refusal::Length`] for more than [`MAX_WORDS`] frames; [`Refusal::MapWord`] for an offset of 2^30 or more.
     pub fn new(offsets: impl IntoIterator<Item = Option<u32>>) -> Result<BlockMap, Refusal> {
         let words: Vec<u32> = offsets
             .into_iter()
@@ -57,7 +57,7 @@ impl BlockMap {
     ///
     /// # Errors
     ///
-    /// [`Refusal::LENGTH`] for more than [`MAX_WORDS`]; [`Refusal::MAP_WORD`] for a word above [`UNMAPPED`].
+    /// [`Refusal::Length`] for more than [`MAX_WORDS`]; [`Refusal::MapWord`] for a word above [`UNMAPPED`].
     pub fn from_words(words: Vec<u32>) -> Result<BlockMap, Refusal> {
         // The library's own tests: a map that is read through no list.
         slices::remap(&words, &[], &mut [])?;

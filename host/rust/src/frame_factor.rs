@@ -59,9 +59,9 @@ impl FrameFactor {
     ///
     /// # Errors
     ///
-    /// [`Refusal::DOF`] above 9; [`Refusal::EMPTY_LIST`] without a frame; [`Refusal::LENGTH`] with more than
-    /// [`MAX_FRAMES`](crate::MAX_FRAMES); [`Refusal::FRAME_COUNT`] if a frame has no points; [`Refusal::TOTAL_COUNT`] if there
-    /// are fewer than three in all; [`Refusal::NOT_FINITE`] if a moment is not finite; [`Refusal::SIGMA`] if `sigma` is not
+    /// [`Refusal::Dof`] above 9; [`Refusal::EmptyList`] without a frame; [`Refusal::Length`] with more than
+    /// [`MAX_FRAMES`](crate::MAX_FRAMES); [`Refusal::FrameCount`] if a frame has no points; [`Refusal::TotalCount`] if there
+    /// are fewer than three in all; [`Refusal::NotFinite`] if a moment is not finite; [`Refusal::Sigma`] if `sigma` is not
     /// finite and positive.
     ///
     /// # Examples
@@ -71,7 +71,7 @@ impl FrameFactor {
     ///
     /// # fn main() -> Result<(), Refusal> {
     /// let points = Moments::from_points(&[[1.0, 2.0, 3.0]; 2])?;
-    /// assert_eq!(FrameFactor::new(6, &[points], None, 0.01).unwrap_err(), Refusal::TOTAL_COUNT);
+    /// assert_eq!(FrameFactor::new(6, &[points], None, 0.01).unwrap_err(), Refusal::TotalCount);
     /// assert_eq!(FrameFactor::new(6, &[points], Some(&points), 0.01)?.points(), 4.0);
     /// # Ok(())
     /// # }
@@ -116,7 +116,7 @@ impl FrameFactor {
     ///
     /// # Errors
     ///
-    /// [`Refusal::ACTIONS`] if they are not as many as the frames.
+    /// [`Refusal::Actions`] if they are not as many as the frames.
     pub fn fit(&self, actions: &[Action]) -> Result<FitSums, Refusal> {
         frames_fit(self.dof, &self.frames, self.fixed.as_ref(), actions)
     }
@@ -129,8 +129,8 @@ impl FrameFactor {
     ///
     /// # Errors
     ///
-    /// [`Refusal::LENGTH`] for an order above [`MAX_ORDER`](crate::MAX_ORDER); [`Refusal::ACTIONS`] if the actions are not as
-    /// many as the frames; [`Refusal::SEGMENT`] if a frame's offset plus the dof exceeds the order. The normal equations are
+    /// [`Refusal::Length`] for an order above [`MAX_ORDER`](crate::MAX_ORDER); [`Refusal::Actions`] if the actions are not as
+    /// many as the frames; [`Refusal::Segment`] if a frame's offset plus the dof exceeds the order. The normal equations are
     /// then as they were.
     pub fn accumulate(
         &self,
@@ -160,7 +160,7 @@ impl FrameFactor {
     ///
     /// # Errors
     ///
-    /// [`Refusal::ACTIONS`] if the actions are not as many as the frames.
+    /// [`Refusal::Actions`] if the actions are not as many as the frames.
     pub fn cost(&self, actions: &[Action], decomposition: &Decomposition) -> Result<f64, Refusal> {
         let mut none = NormalEquations::zeros(0);
         self.accumulate(actions, decomposition, &BlockMap::NOT_WANTED, &mut none)
@@ -173,8 +173,8 @@ impl FrameFactor {
     ///
     /// # Errors
     ///
-    /// [`Refusal::LENGTH`] if `of_frames` has not one for each frame, or there is a fixed set and no `of_fixed`, or the other
-    /// way round; [`Refusal::ACTIONS`] if the actions are not as many as the frames.
+    /// [`Refusal::Length`] if `of_frames` has not one for each frame, or there is a fixed set and no `of_fixed`, or the other
+    /// way round; [`Refusal::Actions`] if the actions are not as many as the frames.
     pub fn linearize(
         &self,
         actions: &[Action],

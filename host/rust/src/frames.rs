@@ -191,8 +191,8 @@ pub struct FitSums {
 ///
 /// # Errors
 ///
-/// [`Refusal::DOF`] above 9, [`Refusal::EMPTY_LIST`] without a frame, [`Refusal::LENGTH`] with more than
-/// [`MAX_FRAMES`](crate::MAX_FRAMES), [`Refusal::ACTIONS`] if the actions are not as many as the frames.
+/// [`Refusal::Dof`] above 9, [`Refusal::EmptyList`] without a frame, [`Refusal::Length`] with more than
+/// [`MAX_FRAMES`](crate::MAX_FRAMES), [`Refusal::Actions`] if the actions are not as many as the frames.
 ///
 /// # Examples
 ///

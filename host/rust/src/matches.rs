@@ -29,8 +29,8 @@ impl PlaneMatch {
     ///
     /// # Errors
     ///
-    /// [`Refusal::DOF`] for more than nine columns of `d_state`, [`Refusal::NOT_FINITE`] if a coordinate of the match's own
-    /// point is not finite, [`Refusal::SIGMA`] if its sigma is not finite and positive.
+    /// [`Refusal::Dof`] for more than nine columns of `d_state`, [`Refusal::NotFinite`] if a coordinate of the match's own
+    /// point is not finite, [`Refusal::Sigma`] if its sigma is not finite and positive.
     ///
     /// # Examples
     ///
@@ -144,10 +144,10 @@ impl MatchList {
     ///
     /// # Errors
     ///
-    /// [`Refusal::DOF`] above 9; [`Refusal::EMPTY_LIST`]; [`Refusal::LENGTH`] with more than
-    /// [`MAX_MATCHES`](crate::MAX_MATCHES) or an order above [`MAX_ORDER`](crate::MAX_ORDER); [`Refusal::NOT_FINITE`] or
-    /// [`Refusal::SIGMA`] by the first match whose point is not finite or whose sigma is not finite and positive;
-    /// [`Refusal::SEGMENT`] if the offset plus the dof exceeds the order. The normal equations are then as they were.
+    /// [`Refusal::Dof`] above 9; [`Refusal::EmptyList`]; [`Refusal::Length`] with more than
+    /// [`MAX_MATCHES`](crate::MAX_MATCHES) or an order above [`MAX_ORDER`](crate::MAX_ORDER); [`Refusal::NotFinite`] or
+    /// [`Refusal::Sigma`] by the first match whose point is not finite or whose sigma is not finite and positive;
+    /// [`Refusal::Segment`] if the offset plus the dof exceeds the order. The normal equations are then as they were.
     pub fn accumulate(
         &self,
         pose: &Action,

@@ -89,7 +89,7 @@ impl Moments {
     ///
     /// # Errors
     ///
-    /// [`Refusal::LENGTH`] for more than [`MAX_POINTS`](crate::MAX_POINTS). Cut longer lists into parts and
+    /// [`Refusal::Length`] for more than [`MAX_POINTS`](crate::MAX_POINTS). Cut longer lists into parts and
     /// [`merge`](Moments::merge) their moments.
     ///
     /// # Examples

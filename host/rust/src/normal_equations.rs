@@ -20,7 +20,7 @@ pub struct NormalEquations {
 
 impl NormalEquations {
     /// Zeros of that order. Calls refuse one above [`MAX_ORDER`](crate::MAX_ORDER) by
-    /// [`Refusal::LENGTH`](crate::Refusal::LENGTH).
+    /// [`Refusal::Length`](crate::Refusal::Length).
     #[must_use]
     pub fn zeros(order: usize) -> NormalEquations {
         NormalEquations {

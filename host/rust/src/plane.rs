@@ -19,7 +19,7 @@ impl Plane {
     ///
     /// # Errors
     ///
-    /// [`Refusal::NORMAL`] if the length of the normal, worked out as the root of the sum of squares, is not finite or not
+    /// [`Refusal::Normal`] if the length of the normal, worked out as the root of the sum of squares, is not finite or not
     /// above 1e-12.
     ///
     /// # Examples
@@ -33,7 +33,7 @@ impl Plane {
     /// assert_eq!(plane.offset, 2.0);
     ///
     /// // The sum of squares overflows.
-    /// assert_eq!(Plane::new([1e200, 0.0, 0.0], 0.0), Err(Refusal::NORMAL));
+    /// assert_eq!(Plane::new([1e200, 0.0, 0.0], 0.0), Err(Refusal::Normal));
     /// # Ok(())
     /// # }
     /// ```
@@ -56,7 +56,7 @@ impl Plane {
 ///
 /// # Errors
 ///
-/// [`Refusal::VARIANCE`] if the variance is not finite and positive.
+/// [`Refusal::Variance`] if the variance is not finite and positive.
 ///
 /// # Examples
 ///
@@ -75,7 +75,7 @@ impl Plane {
 /// let certain = [[0.0; 3]; 3];
 /// assert_eq!(
 ///     point_to_plane_sigma(&floor, &[0.0; 3], &none, &certain, &world, &upright),
-///     Err(Refusal::VARIANCE)
+///     Err(Refusal::Variance)
 /// );
 /// # Ok(())
 /// # }

@@ -2,79 +2,84 @@
 
 use std::error::Error;
 use std::fmt;
-use std::num::NonZeroU32;
 
-/// Why a call was turned away: one of the interface's numbered reasons. A refused call has written nothing.
-///
-/// # Examples
-///
-/// ```
-/// use maghnelt::{Plane, Refusal};
-///
-/// let refusal = Plane::new([0.0, 0.0, 0.0], 1.0).unwrap_err();
-/// assert_eq!(refusal, Refusal::NORMAL);
-/// assert_eq!(refusal.number(), 11);
-/// assert_eq!(
-///     refusal.to_string(),
-///     "reason 11: a plane's normal has a norm that is not finite or not above 1e-12"
-/// );
-/// ```
-#[derive(Clone, Copy, Debug, PartialEq, Eq, Hash)]
-pub struct Refusal(NonZeroU32);
-
-/// Names each reason and gives its text, once for the documentation and for what is printed.
+/// Declares the reasons: each one's number, name and text stand once, for the documentation and for what is printed.
 macro_rules! reasons {
-    ($($number:literal $name:ident $text:literal)*) => {
-        impl Refusal {
+    ($(#[$meta:meta])* $($number:literal $name:ident $text:literal)*) => {
+        $(#[$meta])*
+        pub enum Refusal {
             $(
                 #[doc = concat!("Reason ", $number, ": ", $text, ".")]
-                pub const $name: Refusal = Refusal(NonZeroU32::new($number).unwrap());
+                $name,
             )*
+            /// A reason of a later library, by its number.
+            Other(u32),
         }
 
-        fn text(number: u32) -> &'static str {
-            match number {
-                $($number => $text,)*
-                _ => "one that this version of the crate does not know",
+        impl Refusal {
+            /// The reason's number.
+            #[must_use]
+            pub const fn number(self) -> u32 {
+                match self {
+                    $(Refusal::$name => $number,)*
+                    Refusal::Other(number) => number,
+                }
+            }
+
+            const fn text(self) -> &'static str {
+                match self {
+                    $(Refusal::$name => $text,)*
+                    Refusal::Other(_) => "one that this version of the crate does not know",
+                }
+            }
+
+            /// What a call answered: 0 is accepted, any other number the reason why not.
+            pub(crate) const fn of_answer(answer: u32) -> Result<(), Refusal> {
+                match answer {
+                    0 => Ok(()),
+                    $($number => Err(Refusal::$name),)*
+                    number => Err(Refusal::Other(number)),
+                }
             }
         }
     };
 }
 
 reasons! {
-    1 DOF "the dof is above 9"
-    2 EMPTY_LIST "the frame list or match list is empty"
-    3 LENGTH "a slice other than the actions has not the length its counts call for, or a limit is passed"
-    4 FRAME_COUNT "some frame's count is at or below 0"
-    5 TOTAL_COUNT "the frames' counts summed in order, plus the fixed count, are below 3"
-    6 NOT_FINITE "a moment of a frame or the fixed set, or a coordinate of a point, is not finite"
-    7 SIGMA "sigma is not finite and positive"
-    8 ACTIONS "the actions are not 120 numbers for each frame (one action, for a match list)"
-    9 MAP_WORD "a map word has a bad kind or a bad low part"
-    10 SEGMENT "a mapped frame's offset plus dof exceeds the order n of the Hessian"
-    11 NORMAL "a plane's normal has a norm that is not finite or not above 1e-12"
-    12 VARIANCE "the point-to-plane variance is not finite and positive"
-}
-
-impl Refusal {
-    /// The reason's number.
-    #[must_use]
-    pub const fn number(self) -> u32 {
-        self.0.get()
-    }
-
-    /// What a call answered: 0 is accepted, any other number the reason why not.
-    pub(crate) fn of_answer(answer: u32) -> Result<(), Refusal> {
-        match NonZeroU32::new(answer) {
-            None => Ok(()),
-            Some(number) => Err(Refusal(number)),
-        }
-    }
+    /// Why a call was turned away: one of the interface's numbered reasons. A refused call has written nothing.
+    ///
+    /// # Examples
+    ///
+    /// ```
+    /// use maghnelt::{Plane, Refusal};
+    ///
+    /// let refusal = Plane::new([0.0, 0.0, 0.0], 1.0).unwrap_err();
+    /// assert_eq!(refusal, Refusal::Normal);
+    /// assert_eq!(refusal.number(), 11);
+    /// assert_eq!(
+    ///     refusal.to_string(),
+    ///     "reason 11: a plane's normal has a norm that is not finite or not above 1e-12"
+    /// );
+    /// ```
+    #[derive(Clone, Copy, Debug, PartialEq, Eq, Hash)]
+    #[non_exhaustive]
+    1 Dof "the dof is above 9"
+    2 EmptyList "the frame list or match list is empty"
+    3 Length "a slice other than the actions has not the length its counts call for, or a limit is passed"
+    4 FrameCount "some frame's count is at or below 0"
+    5 TotalCount "the frames' counts summed in order, plus the fixed count, are below 3"
+    6 NotFinite "a moment of a frame or the fixed set, or a coordinate of a point, is not finite"
+    7 Sigma "sigma is not finite and positive"
+    8 Actions "the actions are not 120 numbers for each frame (one action, for a match list)"
+    9 MapWord "a map word has a bad kind or a bad low part"
+    10 Segment "a mapped frame's offset plus dof exceeds the order n of the Hessian"
+    11 Normal "a plane's normal has a norm that is not finite or not above 1e-12"
+    12 Variance "the point-to-plane variance is not finite and positive"
 }
 
 impl fmt::Display for Refusal {
     fn fmt(&self, f: &mut fmt::Formatter<'_>) -> fmt::Result {
-        write!(f, "reason {}: {}", self.number(), text(self.number()))
+        write!(f, "reason {}: {}", self.number(), self.text())
     }
 }
 
@@ -87,7 +92,7 @@ mod tests {
     #[test]
     fn only_0_is_accepted() {
         assert_eq!(Refusal::of_answer(0), Ok(()));
-        assert_eq!(Refusal::of_answer(3), Err(Refusal::LENGTH));
+        assert_eq!(Refusal::of_answer(3), Err(Refusal::Length));
         for answer in [1, 12, 13, u32::MAX] {
             assert_eq!(
                 Refusal::of_answer(answer).map_err(Refusal::number),

@@ -17,7 +17,7 @@ use crate::Refusal;
 ///
 /// # Errors
 ///
-/// [`Refusal::LENGTH`]: `points` is not whole points or more than [`MAX_POINTS`](crate::MAX_POINTS), or `moments` has not
+/// [`Refusal::Length`]: `points` is not whole points or more than [`MAX_POINTS`](crate::MAX_POINTS), or `moments` has not
 /// [`MOMENTS`](crate::MOMENTS) numbers.
 #[inline]
 pub fn moments_from_points(points: &[f64], moments: &mut [f64]) -> Result<(), Refusal> {
@@ -36,7 +36,7 @@ pub fn moments_from_points(points: &[f64], moments: &mut [f64]) -> Result<(), Re
 ///
 /// # Errors
 ///
-/// [`Refusal::LENGTH`]: `moments` has not [`MOMENTS`](crate::MOMENTS) numbers, or `point` not 3.
+/// [`Refusal::Length`]: `moments` has not [`MOMENTS`](crate::MOMENTS) numbers, or `point` not 3.
 #[inline]
 pub fn moments_push(moments: &mut [f64], point: &[f64]) -> Result<(), Refusal> {
     // SAFETY: as said at the head of this file.
@@ -54,7 +54,7 @@ pub fn moments_push(moments: &mut [f64], point: &[f64]) -> Result<(), Refusal> {
 ///
 /// # Errors
 ///
-/// [`Refusal::LENGTH`]: one of the two has not [`MOMENTS`](crate::MOMENTS) numbers.
+/// [`Refusal::Length`]: one of the two has not [`MOMENTS`](crate::MOMENTS) numbers.
 #[inline]
 pub fn moments_merge(moments: &mut [f64], other: &[f64]) -> Result<(), Refusal> {
     // SAFETY: as said at the head of this file.
@@ -72,7 +72,7 @@ pub fn moments_merge(moments: &mut [f64], other: &[f64]) -> Result<(), Refusal> 
 ///
 /// # Errors
 ///
-/// [`Refusal::LENGTH`]: `moments` or `out` has not [`MOMENTS`](crate::MOMENTS) numbers, `a` not 9 or `b` not 3.
+/// [`Refusal::Length`]: `moments` or `out` has not [`MOMENTS`](crate::MOMENTS) numbers, `a` not 9 or `b` not 3.
 #[inline]
 pub fn moments_transformed(
     moments: &[f64],
@@ -99,7 +99,7 @@ pub fn moments_transformed(
 ///
 /// # Errors
 ///
-/// [`Refusal::LENGTH`]: `moments` has not [`MOMENTS`](crate::MOMENTS) numbers, or `out` not 12.
+/// [`Refusal::Length`]: `moments` has not [`MOMENTS`](crate::MOMENTS) numbers, or `out` not 12.
 #[inline]
 pub fn moments_mean_and_scatter(
     moments: &[f64],
@@ -123,7 +123,7 @@ pub fn moments_mean_and_scatter(
 ///
 /// # Errors
 ///
-/// [`Refusal::LENGTH`]: `moments` has not [`MOMENTS`](crate::MOMENTS) numbers, `decomposition` not
+/// [`Refusal::Length`]: `moments` has not [`MOMENTS`](crate::MOMENTS) numbers, `decomposition` not
 /// [`DECOMPOSITION`](crate::DECOMPOSITION) or `out` not 7.
 #[inline]
 pub fn moments_plane(
@@ -150,7 +150,7 @@ pub fn moments_plane(
 ///
 /// # Errors
 ///
-/// [`Refusal::LENGTH`]: `normal` has not 3 numbers, or `plane` not [`PLANE`](crate::PLANE); then [`Refusal::NORMAL`].
+/// [`Refusal::Length`]: `normal` has not 3 numbers, or `plane` not [`PLANE`](crate::PLANE); then [`Refusal::Normal`].
 #[inline]
 pub fn plane_new(normal: &[f64], offset: f64, plane: &mut [f64]) -> Result<(), Refusal> {
     // SAFETY: as said at the head of this file.
@@ -169,8 +169,8 @@ pub fn plane_new(normal: &[f64], offset: f64, plane: &mut [f64]) -> Result<(), R
 ///
 /// # Errors
 ///
-/// [`Refusal::LENGTH`]: `plane` has not [`PLANE`](crate::PLANE) numbers, `centroid` or `world` not 3, `plane_covariance`
-/// not 36, `point_covariance` or `d_world_d_point` not 9; then [`Refusal::VARIANCE`].
+/// [`Refusal::Length`]: `plane` has not [`PLANE`](crate::PLANE) numbers, `centroid` or `world` not 3, `plane_covariance`
+/// not 36, `point_covariance` or `d_world_d_point` not 9; then [`Refusal::Variance`].
 #[inline]
 pub fn point_to_plane_sigma(
     plane: &[f64],
@@ -206,8 +206,8 @@ pub fn point_to_plane_sigma(
 ///
 /// # Errors
 ///
-/// [`Refusal::LENGTH`]: `map` or `list` has more than [`MAX_WORDS`](crate::MAX_WORDS) words, or `out` another length than
-/// `list`; then [`Refusal::MAP_WORD`] for a word of the two above [`UNMAPPED`](crate::UNMAPPED).
+/// [`Refusal::Length`]: `map` or `list` has more than [`MAX_WORDS`](crate::MAX_WORDS) words, or `out` another length than
+/// `list`; then [`Refusal::MapWord`] for a word of the two above [`UNMAPPED`](crate::UNMAPPED).
 #[inline]
 pub fn remap(map: &[u32], list: &[u32], out: &mut [u32]) -> Result<(), Refusal> {
     // SAFETY: as said at the head of this file.
@@ -229,10 +229,10 @@ pub fn remap(map: &[u32], list: &[u32], out: &mut [u32]) -> Result<(), Refusal> 
 ///
 /// # Errors
 ///
-/// [`Refusal::DOF`]; [`Refusal::EMPTY_LIST`]: there is no frame; [`Refusal::LENGTH`]: `frames` is not whole records of
+/// [`Refusal::Dof`]; [`Refusal::EmptyList`]: there is no frame; [`Refusal::Length`]: `frames` is not whole records of
 /// [`MOMENTS`](crate::MOMENTS) numbers or more than [`MAX_FRAMES`](crate::MAX_FRAMES), `fixed` is neither empty nor one such
-/// record, or an output has not [`CENTRED`](crate::CENTRED) numbers for each; then [`Refusal::FRAME_COUNT`],
-/// [`Refusal::TOTAL_COUNT`], [`Refusal::NOT_FINITE`] and [`Refusal::SIGMA`].
+/// record, or an output has not [`CENTRED`](crate::CENTRED) numbers for each; then [`Refusal::FrameCount`],
+/// [`Refusal::TotalCount`], [`Refusal::NotFinite`] and [`Refusal::Sigma`].
 #[allow(clippy::too_many_arguments)]
 #[inline]
 pub fn frames_build(
@@ -269,9 +269,9 @@ pub fn frames_build(
 ///
 /// # Errors
 ///
-/// [`Refusal::DOF`]; [`Refusal::EMPTY_LIST`]: there is no frame; [`Refusal::LENGTH`]: `frames` is not whole frames of
+/// [`Refusal::Dof`]; [`Refusal::EmptyList`]: there is no frame; [`Refusal::Length`]: `frames` is not whole frames of
 /// [`CENTRED`](crate::CENTRED) numbers or more than [`MAX_FRAMES`](crate::MAX_FRAMES), `fixed` is neither empty nor one such
-/// frame, or `out` has not 12 numbers; [`Refusal::ACTIONS`]: the actions are not [`ACTION`](crate::ACTION) numbers for each
+/// frame, or `out` has not 12 numbers; [`Refusal::Actions`]: the actions are not [`ACTION`](crate::ACTION) numbers for each
 /// frame.
 #[inline]
 pub fn frames_fit(
@@ -303,10 +303,10 @@ pub fn frames_fit(
 ///
 /// # Errors
 ///
-/// [`Refusal::DOF`]; [`Refusal::EMPTY_LIST`]; [`Refusal::LENGTH`]: as in [`frames_fit`], or `decomposition` has not
+/// [`Refusal::Dof`]; [`Refusal::EmptyList`]; [`Refusal::Length`]: as in [`frames_fit`], or `decomposition` has not
 /// [`DECOMPOSITION`](crate::DECOMPOSITION) numbers, `map` more than [`MAX_WORDS`](crate::MAX_WORDS) words, `gradient` more
-/// than [`MAX_ORDER`](crate::MAX_ORDER) numbers, or `hessian` not its square; then [`Refusal::SIGMA`],
-/// [`Refusal::ACTIONS`], [`Refusal::MAP_WORD`] and [`Refusal::SEGMENT`].
+/// than [`MAX_ORDER`](crate::MAX_ORDER) numbers, or `hessian` not its square; then [`Refusal::Sigma`],
+/// [`Refusal::Actions`], [`Refusal::MapWord`] and [`Refusal::Segment`].
 #[allow(clippy::too_many_arguments)]
 #[inline]
 pub fn frames_accumulate(
@@ -351,8 +351,8 @@ pub fn frames_accumulate(
 ///
 /// # Errors
 ///
-/// [`Refusal::DOF`]; [`Refusal::EMPTY_LIST`]; [`Refusal::LENGTH`]: as in [`frames_fit`], or `decompositions`, `residual` or
-/// `jacobian` has another length; then [`Refusal::SIGMA`] and [`Refusal::ACTIONS`].
+/// [`Refusal::Dof`]; [`Refusal::EmptyList`]; [`Refusal::Length`]: as in [`frames_fit`], or `decompositions`, `residual` or
+/// `jacobian` has another length; then [`Refusal::Sigma`] and [`Refusal::Actions`].
 #[allow(clippy::too_many_arguments)]
 #[inline]
 pub fn frames_linearize(
@@ -391,11 +391,11 @@ pub fn frames_linearize(
 ///
 /// # Errors
 ///
-/// [`Refusal::DOF`]; [`Refusal::EMPTY_LIST`]: there is no match; [`Refusal::LENGTH`]: `matches` is not whole records of
+/// [`Refusal::Dof`]; [`Refusal::EmptyList`]: there is no match; [`Refusal::Length`]: `matches` is not whole records of
 /// [`MATCH`](crate::MATCH) numbers or more than [`MAX_MATCHES`](crate::MAX_MATCHES), `map` has more than
 /// [`MAX_WORDS`](crate::MAX_WORDS) words, `gradient` more than [`MAX_ORDER`](crate::MAX_ORDER) numbers, or `hessian` not its
-/// square; then of the first bad match [`Refusal::NOT_FINITE`] or [`Refusal::SIGMA`]; [`Refusal::ACTIONS`]: `action` has not
-/// [`ACTION`](crate::ACTION) numbers; then [`Refusal::MAP_WORD`] and [`Refusal::SEGMENT`].
+/// square; then of the first bad match [`Refusal::NotFinite`] or [`Refusal::Sigma`]; [`Refusal::Actions`]: `action` has not
+/// [`ACTION`](crate::ACTION) numbers; then [`Refusal::MapWord`] and [`Refusal::Segment`].
 #[inline]
 pub fn matches_accumulate(
     dof: u32,
@@ -430,7 +430,7 @@ pub fn matches_accumulate(
 ///
 /// # Errors
 ///
-/// As [`matches_accumulate`] up to [`Refusal::ACTIONS`]; [`Refusal::LENGTH`] also if `residual` has not a number for each
+/// As [`matches_accumulate`] up to [`Refusal::Actions`]; [`Refusal::Length`] also if `residual` has not a number for each
 /// match, or `jacobian` neither none nor `dof` for each.
 #[inline]
 pub fn matches_linearize(
@@ -462,9 +462,9 @@ pub fn matches_linearize(
 ///
 /// # Errors
 ///
-/// [`Refusal::DOF`]; [`Refusal::EMPTY_LIST`]: `record` is empty; [`Refusal::LENGTH`]: it has not [`MATCH`](crate::MATCH)
+/// [`Refusal::Dof`]; [`Refusal::EmptyList`]: `record` is empty; [`Refusal::Length`]: it has not [`MATCH`](crate::MATCH)
 /// numbers, `world` not 3, `d_state` not 3 for each of the dof, `d_extrinsic` not 18, or `row` neither none nor dof + 6; then
-/// [`Refusal::NOT_FINITE`], for the match's own point alone, and [`Refusal::SIGMA`].
+/// [`Refusal::NotFinite`], for the match's own point alone, and [`Refusal::Sigma`].
 #[inline]
 pub fn match_linearize(
     dof: u32,

@@ -28,17 +28,17 @@ fn words_that_are_refused() {
         let words = vec![0, word, 1];
         assert_eq!(
             BlockMap::from_words(words),
-            Err(Refusal::MAP_WORD),
+            Err(Refusal::MapWord),
             "{word:X}"
         );
         assert_eq!(
             BlockMap::new([Some(word)]),
-            Err(Refusal::MAP_WORD),
+            Err(Refusal::MapWord),
             "{word:X}"
         );
     }
     // Unmapped is no offset.
-    assert_eq!(BlockMap::new([Some(UNMAPPED)]), Err(Refusal::MAP_WORD));
+    assert_eq!(BlockMap::new([Some(UNMAPPED)]), Err(Refusal::MapWord));
 }
 
 #[test]
@@ -46,8 +46,8 @@ fn as_many_words_as_allowed_and_no_more() {
     let words = vec![7; MAX_WORDS];
     assert_eq!(BlockMap::from_words(words.clone()).unwrap().words(), words);
     let more = vec![u32::MAX; MAX_WORDS + 1];
-    assert_eq!(BlockMap::from_words(more), Err(Refusal::LENGTH));
-    assert_eq!(BlockMap::new(std::iter::repeat(None)), Err(Refusal::LENGTH));
+    assert_eq!(BlockMap::from_words(more), Err(Refusal::Length));
+    assert_eq!(BlockMap::new(std::iter::repeat(None)), Err(Refusal::Length));
 }
 
 #[test]

@@ -27,7 +27,7 @@ fn a_fixed_set_without_points_is_dropped_after_it_was_counted() {
     assert_eq!(factor.fixed(), None);
     assert_eq!(
         built(&five, Some(&at_origin(-3.0))),
-        Err(Refusal::TOTAL_COUNT)
+        Err(Refusal::TotalCount)
     );
     for count in [0.0, -0.0] {
         assert!(built(&five, Some(&at_origin(count)))
@@ -43,11 +43,8 @@ fn a_fixed_set_counts() {
     assert_eq!(factor.points(), 3.0);
     assert!(!factor.fixed_dropped());
     assert_eq!(factor.fixed().unwrap().count(), 1.0);
-    assert_eq!(
-        built(&two, Some(&at_origin(0.5))),
-        Err(Refusal::TOTAL_COUNT)
-    );
-    assert_eq!(built(&two, None), Err(Refusal::TOTAL_COUNT));
+    assert_eq!(built(&two, Some(&at_origin(0.5))), Err(Refusal::TotalCount));
+    assert_eq!(built(&two, None), Err(Refusal::TotalCount));
 }
 
 #[test]
@@ -81,20 +78,20 @@ fn builds_that_are_refused() {
     let new = |dof, frames: &[Moments], sigma| FrameFactor::new(dof, frames, None, sigma);
     // Each reason with those after it.
     let bad = [with(0, -0.0), with(7, f64::NAN)];
-    assert_eq!(new(10, &[], 0.0), Err(Refusal::DOF));
-    assert_eq!(new(9, &[], 0.0), Err(Refusal::EMPTY_LIST));
+    assert_eq!(new(10, &[], 0.0), Err(Refusal::Dof));
+    assert_eq!(new(9, &[], 0.0), Err(Refusal::EmptyList));
     assert_eq!(
         new(9, &vec![bad[0]; MAX_FRAMES + 1], 0.0),
-        Err(Refusal::LENGTH)
+        Err(Refusal::Length)
     );
-    assert_eq!(new(9, &bad, 0.0), Err(Refusal::FRAME_COUNT));
+    assert_eq!(new(9, &bad, 0.0), Err(Refusal::FrameCount));
     assert_eq!(
         new(9, &[with(0, 2.0), with(0, 0.9)], 0.0),
-        Err(Refusal::TOTAL_COUNT)
+        Err(Refusal::TotalCount)
     );
-    assert_eq!(new(9, &[three, bad[1]], 0.0), Err(Refusal::NOT_FINITE));
+    assert_eq!(new(9, &[three, bad[1]], 0.0), Err(Refusal::NotFinite));
     for sigma in [0.0, -1.0, f64::INFINITY, f64::NAN] {
-        assert_eq!(new(9, &[three], sigma), Err(Refusal::SIGMA));
+        assert_eq!(new(9, &[three], sigma), Err(Refusal::Sigma));
     }
     assert!(new(9, &vec![three; MAX_FRAMES], 1.0).is_ok());
 }
@@ -106,12 +103,12 @@ fn a_fixed_set_is_tested_also_where_it_will_be_dropped() {
     let fixed = Moments::from(record);
     assert_eq!(
         built(&[at_origin(5.0)], Some(&fixed)),
-        Err(Refusal::NOT_FINITE)
+        Err(Refusal::NotFinite)
     );
     let minus_infinity = at_origin(f64::NEG_INFINITY);
     assert_eq!(
         built(&[at_origin(5.0)], Some(&minus_infinity)),
-        Err(Refusal::TOTAL_COUNT)
+        Err(Refusal::TotalCount)
     );
 }
 
@@ -239,7 +236,7 @@ fn without_a_plane_nothing_is_added() {
         assert!(numbers.into_iter().all(|x| x.to_bits() == 0));
         // A segment that does not fit is refused all the same.
         let refused = factor.accumulate(&[stretching()], &fit, &at(&[1]), &mut normal);
-        assert_eq!(refused, Err(Refusal::SEGMENT));
+        assert_eq!(refused, Err(Refusal::Segment));
     }
 }
 
@@ -266,10 +263,10 @@ fn calls_that_are_refused() {
     let before = normal.clone();
     let mut accumulate =
         |states: &[Action], map: &BlockMap| factor.accumulate(states, &fit, map, &mut normal);
-    assert_eq!(accumulate(&states, &at(&[1])), Err(Refusal::ACTIONS));
+    assert_eq!(accumulate(&states, &at(&[1])), Err(Refusal::Actions));
     assert_eq!(
         accumulate(&states[..2], &at(&[0, 1])),
-        Err(Refusal::SEGMENT)
+        Err(Refusal::Segment)
     );
     // The third word is no frame's.
     assert!(accumulate(&states[..2], &at(&[0, 0, 1])).is_ok());
@@ -278,7 +275,7 @@ fn calls_that_are_refused() {
         factor.linearize(&states[..2], &fit, &[fit; 3][..of_frames], of_fixed)
     };
     assert!(linearize(2, None).is_ok());
-    assert_eq!(linearize(1, None), Err(Refusal::LENGTH));
-    assert_eq!(linearize(3, None), Err(Refusal::LENGTH));
-    assert_eq!(linearize(2, Some(&fit)), Err(Refusal::LENGTH));
+    assert_eq!(linearize(1, None), Err(Refusal::Length));
+    assert_eq!(linearize(3, None), Err(Refusal::Length));
+    assert_eq!(linearize(2, Some(&fit)), Err(Refusal::Length));
 }

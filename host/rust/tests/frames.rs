@@ -128,9 +128,9 @@ fn calls_that_are_refused() {
         frames_fit(dof, &frames[..of_frames], None, &actions[..of_actions]).map(|sums| sums.mean)
     };
     assert_eq!(fit(9, MAX_FRAMES, MAX_FRAMES), Ok([0.0; 3]));
-    assert_eq!(fit(10, 0, 1), Err(Refusal::DOF));
-    assert_eq!(fit(6, 0, 1), Err(Refusal::EMPTY_LIST));
-    assert_eq!(fit(6, MAX_FRAMES + 1, 1), Err(Refusal::LENGTH));
-    assert_eq!(fit(6, 2, 1), Err(Refusal::ACTIONS));
-    assert_eq!(fit(6, 1, 2), Err(Refusal::ACTIONS));
+    assert_eq!(fit(10, 0, 1), Err(Refusal::Dof));
+    assert_eq!(fit(6, 0, 1), Err(Refusal::EmptyList));
+    assert_eq!(fit(6, MAX_FRAMES + 1, 1), Err(Refusal::Length));
+    assert_eq!(fit(6, 2, 1), Err(Refusal::Actions));
+    assert_eq!(fit(6, 1, 2), Err(Refusal::Actions));
 }

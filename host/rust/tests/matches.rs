@@ -65,9 +65,9 @@ fn matches_that_are_refused() {
     bad_point.point[2] = f64::NEG_INFINITY;
     // Neither the plane nor the chain is tested.
     assert_eq!(refused(good, 9), Ok(()));
-    assert_eq!(refused(bad_point, 10), Err(Refusal::DOF));
-    assert_eq!(refused(bad_point, 9), Err(Refusal::NOT_FINITE));
-    assert_eq!(refused(bad_sigma, 9), Err(Refusal::SIGMA));
+    assert_eq!(refused(bad_point, 10), Err(Refusal::Dof));
+    assert_eq!(refused(bad_point, 9), Err(Refusal::NotFinite));
+    assert_eq!(refused(bad_sigma, 9), Err(Refusal::Sigma));
 }
 
 /// A match whose residual under a pose that moves nothing is that number.
@@ -115,7 +115,7 @@ fn a_segment_has_to_fit() {
     let before = normal.clone();
     assert_eq!(
         matches.accumulate(&still(), &at(1), &mut normal),
-        Err(Refusal::SEGMENT)
+        Err(Refusal::Segment)
     );
     assert_eq!(normal, before);
     assert_eq!(matches.accumulate(&still(), &at(0), &mut normal), Ok(1.0));
@@ -125,7 +125,7 @@ fn a_segment_has_to_fit() {
     assert_eq!(none.accumulate(&still(), &at(6), &mut normal), Ok(1.0));
     assert_eq!(
         none.accumulate(&still(), &at(7), &mut normal),
-        Err(Refusal::SEGMENT)
+        Err(Refusal::Segment)
     );
 }
 
@@ -191,15 +191,12 @@ fn the_first_bad_match_decides() {
     let bad_point = with_residual(f64::NAN);
     let good = with_residual(1.0);
     let cost = |matches: &[PlaneMatch]| MatchList::new(6, matches.iter().copied()).cost(&still());
-    assert_eq!(cost(&[good, bad_sigma, bad_point]), Err(Refusal::SIGMA));
-    assert_eq!(
-        cost(&[good, bad_point, bad_sigma]),
-        Err(Refusal::NOT_FINITE)
-    );
+    assert_eq!(cost(&[good, bad_sigma, bad_point]), Err(Refusal::Sigma));
+    assert_eq!(cost(&[good, bad_point, bad_sigma]), Err(Refusal::NotFinite));
     let mut both = bad_point;
     both.sigma = 0.0;
-    assert_eq!(cost(&[both]), Err(Refusal::NOT_FINITE));
-    assert_eq!(cost(&[]), Err(Refusal::EMPTY_LIST));
+    assert_eq!(cost(&[both]), Err(Refusal::NotFinite));
+    assert_eq!(cost(&[]), Err(Refusal::EmptyList));
 }
 
 #[test]
@@ -207,8 +204,8 @@ fn as_many_matches_as_allowed_and_no_more() {
     let all = MatchList::new(6, vec![with_residual(1.0); MAX_MATCHES]);
     assert_eq!(all.cost(&still()), Ok(MAX_MATCHES as f64));
     let more = MatchList::new(6, vec![with_residual(f64::NAN); MAX_MATCHES + 1]);
-    assert_eq!(more.cost(&still()), Err(Refusal::LENGTH));
-    assert_eq!(more.linearize(&still()), Err(Refusal::LENGTH));
+    assert_eq!(more.cost(&still()), Err(Refusal::Length));
+    assert_eq!(more.linearize(&still()), Err(Refusal::Length));
 }
 
 #[test]
@@ -217,7 +214,7 @@ fn orders_and_dofs_that_are_refused() {
     let mut normal = NormalEquations::zeros(MAX_ORDER + 1);
     assert_eq!(
         matches(6).accumulate(&still(), &at(0), &mut normal),
-        Err(Refusal::LENGTH)
+        Err(Refusal::Length)
     );
     let mut normal = NormalEquations::zeros(MAX_ORDER);
     let last = MAX_ORDER as u32 - 6;
@@ -226,6 +223,6 @@ fn orders_and_dofs_that_are_refused() {
         Ok(1.0)
     );
     assert_eq!(normal.hessian(last as usize, last as usize), 1.0);
-    assert_eq!(matches(10).cost(&still()), Err(Refusal::DOF));
-    assert_eq!(matches(u32::MAX).linearize(&still()), Err(Refusal::DOF));
+    assert_eq!(matches(10).cost(&still()), Err(Refusal::Dof));
+    assert_eq!(matches(u32::MAX).linearize(&still()), Err(Refusal::Dof));
 }

@@ -58,7 +58,7 @@ fn as_many_points_as_allowed_and_no_more() {
     assert_eq!(moments(&points[1..]).count(), MAX_POINTS as f64);
     assert_eq!(
         Moments::from_points(&points).unwrap_err(),
-        maghnelt::Refusal::LENGTH
+        maghnelt::Refusal::Length
     );
 }
 

@@ -26,7 +26,7 @@ fn normals_that_are_refused() {
         [f64::INFINITY, 0.0, 0.0],
         [1.0, f64::NAN, 1.0],
     ] {
-        assert_eq!(Plane::new(normal, 1.0), Err(Refusal::NORMAL), "{normal:?}");
+        assert_eq!(Plane::new(normal, 1.0), Err(Refusal::Normal), "{normal:?}");
     }
 }
 
@@ -35,7 +35,7 @@ fn a_length_of_1e_12_is_not_above_it() {
     let least = 1e-12f64;
     // The root of the rounded square is the number itself, so that it is exactly at the limit.
     assert_eq!((least * least).sqrt(), least);
-    assert_eq!(Plane::new([0.0, least, 0.0], 1.0), Err(Refusal::NORMAL));
+    assert_eq!(Plane::new([0.0, least, 0.0], 1.0), Err(Refusal::Normal));
     let above = f64::from_bits(least.to_bits() + 1);
     assert_eq!(
         Plane::new([0.0, -above, 0.0], 1.0).unwrap().normal,
@@ -98,7 +98,7 @@ fn variances_that_are_refused() {
         of_point(&covariance, &UNIT)
     };
     for variance in [0.0, -1.0, f64::INFINITY, f64::NEG_INFINITY, f64::NAN] {
-        assert_eq!(of_z(variance), Err(Refusal::VARIANCE), "{variance}");
+        assert_eq!(of_z(variance), Err(Refusal::Variance), "{variance}");
     }
     assert_eq!(
         of_z(f64::from_bits(1)),

@@ -5,18 +5,18 @@ use std::error::Error;
 
 /// Every reason, in the order of the numbers, with a word of its text.
 const REASONS: [(Refusal, &str); 12] = [
-    (Refusal::DOF, "dof"),
-    (Refusal::EMPTY_LIST, "empty"),
-    (Refusal::LENGTH, "length"),
-    (Refusal::FRAME_COUNT, "at or below 0"),
-    (Refusal::TOTAL_COUNT, "below 3"),
-    (Refusal::NOT_FINITE, "not finite"),
-    (Refusal::SIGMA, "sigma"),
-    (Refusal::ACTIONS, "120"),
-    (Refusal::MAP_WORD, "map word"),
-    (Refusal::SEGMENT, "Hessian"),
-    (Refusal::NORMAL, "1e-12"),
-    (Refusal::VARIANCE, "variance"),
+    (Refusal::Dof, "dof"),
+    (Refusal::EmptyList, "empty"),
+    (Refusal::Length, "length"),
+    (Refusal::FrameCount, "at or below 0"),
+    (Refusal::TotalCount, "below 3"),
+    (Refusal::NotFinite, "not finite"),
+    (Refusal::Sigma, "sigma"),
+    (Refusal::Actions, "120"),
+    (Refusal::MapWord, "map word"),
+    (Refusal::Segment, "Hessian"),
+    (Refusal::Normal, "1e-12"),
+    (Refusal::Variance, "variance"),
 ];
 
 #[test]
@@ -40,5 +40,5 @@ fn a_caller_may_hand_a_refusal_on_with_any_other_error() {
         Ok(Moments::from_points(&vec![[0.0; 3]; MAX_POINTS + 1])?)
     }
     let error = too_many().unwrap_err();
-    assert_eq!(error.downcast_ref::<Refusal>(), Some(&Refusal::LENGTH));
+    assert_eq!(error.downcast_ref::<Refusal>(), Some(&Refusal::Length));
 }

@@ -44,7 +44,7 @@ fn wrong<const N: usize>(right: [usize; N]) -> Vec<[usize; N]> {
 
 /// Lends an output of that length and sees that the call refuses it for its length and leaves it.
 fn refused(length: usize, call: impl FnOnce(&mut [f64]) -> Result<(), Refusal>) {
-    refused_by(Refusal::LENGTH, length, call);
+    refused_by(Refusal::Length, length, call);
 }
 
 fn refused_by(
@@ -146,7 +146,7 @@ fn plane_new() {
     let mut out = patterns(PLANE);
     assert_eq!(
         slices::plane_new(&[0.0; 3], 1.0, &mut out),
-        Err(Refusal::NORMAL)
+        Err(Refusal::Normal)
     );
     assert_eq!(bits(&out), bits(&patterns(PLANE)));
 }
@@ -165,10 +165,10 @@ fn sigma() {
     let right = [PLANE, 3, 36, 9, 3, 9];
     for lengths in wrong(right) {
         // With ones it would be accepted, with zeros refused by the variance, but for the lengths.
-        assert_eq!(answer(lengths, 1.0), Err(Refusal::LENGTH), "{lengths:?}");
-        assert_eq!(answer(lengths, 0.0), Err(Refusal::LENGTH), "{lengths:?}");
+        assert_eq!(answer(lengths, 1.0), Err(Refusal::Length), "{lengths:?}");
+        assert_eq!(answer(lengths, 0.0), Err(Refusal::Length), "{lengths:?}");
     }
-    assert_eq!(answer(right, 0.0), Err(Refusal::VARIANCE));
+    assert_eq!(answer(right, 0.0), Err(Refusal::Variance));
     assert_eq!(sigma.to_bits(), before.to_bits());
 }
 
@@ -184,14 +184,14 @@ fn remap() {
     };
     // The lengths are tested before the words.
     for words in [&good, &bad] {
-        refused(Refusal::LENGTH, words, &words[..3], 3);
-        refused(Refusal::LENGTH, &words[..3], words, MAX_WORDS + 1);
+        refused(Refusal::Length, words, &words[..3], 3);
+        refused(Refusal::Length, &words[..3], words, MAX_WORDS + 1);
         for length in [0, 2, 4] {
-            refused(Refusal::LENGTH, &words[..3], &words[..3], length);
+            refused(Refusal::Length, &words[..3], &words[..3], length);
         }
     }
-    refused(Refusal::MAP_WORD, &bad[..1], &[], 0);
-    refused(Refusal::MAP_WORD, &[], &bad[..1], 1);
+    refused(Refusal::MapWord, &bad[..1], &[], 0);
+    refused(Refusal::MapWord, &[], &bad[..1], 1);
     let mut out = vec![7; MAX_WORDS];
     assert_eq!(slices::remap(&[], &good[..MAX_WORDS], &mut out), Ok(()));
     assert_eq!(out, [UNMAPPED; MAX_WORDS]);
@@ -227,8 +227,8 @@ fn build() {
     for lengths in wrong(right) {
         let [of_frames, of_fixed, ..] = lengths;
         let expected = match of_frames {
-            0 => Refusal::EMPTY_LIST,
-            _ => Refusal::LENGTH,
+            0 => Refusal::EmptyList,
+            _ => Refusal::Length,
         };
         if lengths != [of_frames, 0, of_frames, 0] || of_fixed != 0 || of_frames % MOMENTS != 0 {
             assert_eq!(build(lengths), Err(expected), "{lengths:?}");
@@ -237,7 +237,7 @@ fn build() {
     let most = MAX_FRAMES + 1;
     assert_eq!(
         build([most * MOMENTS, 0, most * CENTRED, 0]),
-        Err(Refusal::LENGTH)
+        Err(Refusal::Length)
     );
 }
 
@@ -258,9 +258,9 @@ fn fit() {
     let two = [2 * CENTRED, CENTRED, 2 * ACTION];
     // Each reason is tested with those after it.
     for dof in [10, u32::MAX] {
-        refused_by(Refusal::DOF, 11, |out| fit(dof, [0, 1, 1], out));
+        refused_by(Refusal::Dof, 11, |out| fit(dof, [0, 1, 1], out));
     }
-    refused_by(Refusal::EMPTY_LIST, 11, |out| fit(9, [0, 1, 1], out));
+    refused_by(Refusal::EmptyList, 11, |out| fit(9, [0, 1, 1], out));
     for of_frames in [1, CENTRED - 1, CENTRED + 1, CENTRED * (MAX_FRAMES + 1)] {
         refused(12, |out| fit(9, [of_frames, 0, 1], out));
     }
@@ -271,7 +271,7 @@ fn fit() {
         refused(length, |out| fit(9, [CENTRED, 0, 1], out));
     }
     for of_actions in [0, ACTION, 2 * ACTION - 1, 2 * ACTION + 1, 3 * ACTION] {
-        refused_by(Refusal::ACTIONS, 12, |out| {
+        refused_by(Refusal::Actions, 12, |out| {
             fit(9, [two[0], two[1], of_actions], out)
         });
     }
@@ -303,19 +303,19 @@ fn one_match() {
     let right = [MATCH, 3, 6, 18, 8];
     assert_eq!(answer(2, right, 1.0), Ok(()));
     assert_eq!(answer(2, [MATCH, 3, 6, 18, 0], 1.0), Ok(()));
-    assert_eq!(answer(2, right, f64::NAN), Err(Refusal::NOT_FINITE));
-    assert_eq!(answer(2, right, -1.0), Err(Refusal::SIGMA));
+    assert_eq!(answer(2, right, f64::NAN), Err(Refusal::NotFinite));
+    assert_eq!(answer(2, right, -1.0), Err(Refusal::Sigma));
     for lengths in wrong(right) {
         if lengths[..4] == right[..4] && lengths[4] == 0 {
             continue;
         }
         let expected = match lengths[0] {
-            0 => Refusal::EMPTY_LIST,
-            _ => Refusal::LENGTH,
+            0 => Refusal::EmptyList,
+            _ => Refusal::Length,
         };
         for filled in [1.0, f64::NAN] {
             assert_eq!(answer(2, lengths, filled), Err(expected), "{lengths:?}");
-            assert_eq!(answer(10, lengths, filled), Err(Refusal::DOF));
+            assert_eq!(answer(10, lengths, filled), Err(Refusal::Dof));
         }
     }
 }
@@ -351,27 +351,27 @@ fn matches() {
     let long = vec![UNMAPPED + 1; MAX_WORDS + 1];
     let bad = [UNMAPPED, UNMAPPED + 1];
     for (dof, lengths, map, target, reason) in [
-        (10, [0, 0], &long[..], [1, 0], Refusal::DOF),
-        (2, [0, 0], &long, [1, 0], Refusal::EMPTY_LIST),
-        (2, [MATCH - 1, 0], &bad, [3, 9], Refusal::LENGTH),
-        (2, [MATCH + 1, 0], &bad, [3, 9], Refusal::LENGTH),
-        (2, [MATCH, 0], &long, [3, 9], Refusal::LENGTH),
-        (2, [MATCH, 0], &bad, [3, 8], Refusal::LENGTH),
-        (2, [MATCH, 0], &bad, [3, 3], Refusal::LENGTH),
-        (2, [MATCH, 0], &bad, [0, 1], Refusal::LENGTH),
-        (2, [MATCH, 0], &bad, [3, 0], Refusal::LENGTH),
-        (2, [MATCH, ACTION - 1], &bad, [3, 9], Refusal::ACTIONS),
-        (2, [MATCH, 2 * ACTION], &bad, [3, 9], Refusal::ACTIONS),
-        (2, [MATCH, ACTION], &bad, [3, 9], Refusal::MAP_WORD),
-        (2, [MATCH, ACTION], &[2], [3, 9], Refusal::SEGMENT),
-        (2, [MATCH, ACTION], &[0], [0, 0], Refusal::SEGMENT),
+        (10, [0, 0], &long[..], [1, 0], Refusal::Dof),
+        (2, [0, 0], &long, [1, 0], Refusal::EmptyList),
+        (2, [MATCH - 1, 0], &bad, [3, 9], Refusal::Length),
+        (2, [MATCH + 1, 0], &bad, [3, 9], Refusal::Length),
+        (2, [MATCH, 0], &long, [3, 9], Refusal::Length),
+        (2, [MATCH, 0], &bad, [3, 8], Refusal::Length),
+        (2, [MATCH, 0], &bad, [3, 3], Refusal::Length),
+        (2, [MATCH, 0], &bad, [0, 1], Refusal::Length),
+        (2, [MATCH, 0], &bad, [3, 0], Refusal::Length),
+        (2, [MATCH, ACTION - 1], &bad, [3, 9], Refusal::Actions),
+        (2, [MATCH, 2 * ACTION], &bad, [3, 9], Refusal::Actions),
+        (2, [MATCH, ACTION], &bad, [3, 9], Refusal::MapWord),
+        (2, [MATCH, ACTION], &[2], [3, 9], Refusal::Segment),
+        (2, [MATCH, ACTION], &[0], [0, 0], Refusal::Segment),
     ] {
         assert_eq!(accumulate(dof, lengths, map, target), Err(reason));
     }
     let order = MAX_ORDER + 1;
     assert_eq!(
         accumulate(2, [MATCH, 0], &bad, [order, order * order]),
-        Err(Refusal::LENGTH)
+        Err(Refusal::Length)
     );
 
     let linearize = |dof: u32, lengths: [usize; 4]| {
@@ -396,13 +396,13 @@ fn matches() {
     for lengths in wrong(right) {
         let [of_matches, of_action, of_residual, of_jacobian] = lengths;
         let expected = match (of_matches, of_residual, of_jacobian) {
-            (0, _, _) => Refusal::EMPTY_LIST,
-            (24, 3, 0 | 6) if of_action != ACTION => Refusal::ACTIONS,
+            (0, _, _) => Refusal::EmptyList,
+            (24, 3, 0 | 6) if of_action != ACTION => Refusal::Actions,
             (24, 3, 0 | 6) => continue,
-            _ => Refusal::LENGTH,
+            _ => Refusal::Length,
         };
         assert_eq!(linearize(2, lengths), Err(expected), "{lengths:?}");
-        assert_eq!(linearize(10, lengths), Err(Refusal::DOF));
+        assert_eq!(linearize(10, lengths), Err(Refusal::Dof));
     }
 }
 
@@ -442,11 +442,8 @@ fn accumulated_frames() {
         vec![UNMAPPED, UNMAPPED, UNMAPPED + 1],
     ];
     // Each reason with those after it.
-    assert_eq!(call(10, 0.0, [0; 4], &long, [1, 0]), Err(Refusal::DOF));
-    assert_eq!(
-        call(2, 0.0, [0; 4], &long, [1, 0]),
-        Err(Refusal::EMPTY_LIST)
-    );
+    assert_eq!(call(10, 0.0, [0; 4], &long, [1, 0]), Err(Refusal::Dof));
+    assert_eq!(call(2, 0.0, [0; 4], &long, [1, 0]), Err(Refusal::EmptyList));
     for lengths in [
         [CENTRED + 1, 0, 0, DECOMPOSITION],
         [
@@ -461,21 +458,21 @@ fn accumulated_frames() {
         [CENTRED, 0, 0, DECOMPOSITION - 1],
         [CENTRED, 0, 0, 2 * DECOMPOSITION],
     ] {
-        assert_eq!(call(2, 0.0, lengths, &bad, [3, 9]), Err(Refusal::LENGTH));
+        assert_eq!(call(2, 0.0, lengths, &bad, [3, 9]), Err(Refusal::Length));
     }
     let one = [CENTRED, 0, 0, DECOMPOSITION];
     for target in [[3, 8], [3, 10], [3, 0], [0, 1]] {
-        assert_eq!(call(2, 0.0, one, &bad, target), Err(Refusal::LENGTH));
+        assert_eq!(call(2, 0.0, one, &bad, target), Err(Refusal::Length));
     }
-    assert_eq!(call(2, 0.0, one, &long, [3, 9]), Err(Refusal::LENGTH));
-    assert_eq!(call(2, 0.0, one, &bad, [3, 9]), Err(Refusal::SIGMA));
+    assert_eq!(call(2, 0.0, one, &long, [3, 9]), Err(Refusal::Length));
+    assert_eq!(call(2, 0.0, one, &bad, [3, 9]), Err(Refusal::Sigma));
     for actions in [0, 1, ACTION, 3 * ACTION] {
         let lengths = [2 * CENTRED, 0, actions, DECOMPOSITION];
-        assert_eq!(call(2, 1.0, lengths, &bad, [3, 9]), Err(Refusal::ACTIONS));
+        assert_eq!(call(2, 1.0, lengths, &bad, [3, 9]), Err(Refusal::Actions));
     }
-    assert_eq!(call(2, 1.0, right, &bad, [3, 9]), Err(Refusal::MAP_WORD));
-    assert_eq!(call(2, 1.0, right, &[0, 2], [3, 9]), Err(Refusal::SEGMENT));
-    assert_eq!(call(2, 1.0, right, &[0], [0, 0]), Err(Refusal::SEGMENT));
+    assert_eq!(call(2, 1.0, right, &bad, [3, 9]), Err(Refusal::MapWord));
+    assert_eq!(call(2, 1.0, right, &[0, 2], [3, 9]), Err(Refusal::Segment));
+    assert_eq!(call(2, 1.0, right, &[0], [0, 0]), Err(Refusal::Segment));
 }
 
 #[test]
@@ -509,24 +506,24 @@ fn linearized_frames() {
         ([26, 0, two, 36, 12, 48], Ok(())),
         ([26, 13, two, 48, 12, 48], Ok(())),
         ([26, 13, two, 48, 12, 0], Ok(())),
-        ([0, 0, 0, 0, 0, 0], Err(Refusal::EMPTY_LIST)),
-        ([27, 0, 0, 36, 12, 48], Err(Refusal::LENGTH)),
-        ([26, 1, 0, 48, 12, 48], Err(Refusal::LENGTH)),
-        ([26, 0, 0, 48, 12, 48], Err(Refusal::LENGTH)),
-        ([26, 13, 0, 36, 12, 48], Err(Refusal::LENGTH)),
-        ([26, 0, 0, 36, 8, 48], Err(Refusal::LENGTH)),
-        ([26, 0, 0, 36, 12, 47], Err(Refusal::LENGTH)),
-        ([26, 0, 0, 36, 12, 12], Err(Refusal::LENGTH)),
-        ([26, 0, 0, 36, 12, 48], Err(Refusal::ACTIONS)),
-        ([26, 0, ACTION, 36, 12, 48], Err(Refusal::ACTIONS)),
+        ([0, 0, 0, 0, 0, 0], Err(Refusal::EmptyList)),
+        ([27, 0, 0, 36, 12, 48], Err(Refusal::Length)),
+        ([26, 1, 0, 48, 12, 48], Err(Refusal::Length)),
+        ([26, 0, 0, 48, 12, 48], Err(Refusal::Length)),
+        ([26, 13, 0, 36, 12, 48], Err(Refusal::Length)),
+        ([26, 0, 0, 36, 8, 48], Err(Refusal::Length)),
+        ([26, 0, 0, 36, 12, 47], Err(Refusal::Length)),
+        ([26, 0, 0, 36, 12, 12], Err(Refusal::Length)),
+        ([26, 0, 0, 36, 12, 48], Err(Refusal::Actions)),
+        ([26, 0, ACTION, 36, 12, 48], Err(Refusal::Actions)),
     ] {
         assert_eq!(call(2, 1.0, lengths), expected, "{lengths:?}");
-        let before_sigma = [Err(Refusal::EMPTY_LIST), Err(Refusal::LENGTH)];
+        let before_sigma = [Err(Refusal::EmptyList), Err(Refusal::Length)];
         if !before_sigma.contains(&expected) {
-            assert_eq!(call(2, f64::NAN, lengths), Err(Refusal::SIGMA));
+            assert_eq!(call(2, f64::NAN, lengths), Err(Refusal::Sigma));
         }
-        assert_eq!(call(10, f64::NAN, lengths), Err(Refusal::DOF));
+        assert_eq!(call(10, f64::NAN, lengths), Err(Refusal::Dof));
     }
     assert_eq!(call(0, 1.0, [26, 0, two, 36, 12, 0]), Ok(()));
-    assert_eq!(call(0, 1.0, [26, 0, two, 36, 12, 1]), Err(Refusal::LENGTH));
+    assert_eq!(call(0, 1.0, [26, 0, two, 36, 12, 1]), Err(Refusal::Length));
 }
