@@ -40,7 +40,7 @@ pub fn by_rows(x: &[f64]) -> [f64; 108]
 }
 
 // Entry c of a match's row.
-pub fn entry(t: &[f64; 108], s: [f64; 3], n: [f64; 3], info: f64, c: usize) -> f64
+fn entry(t: &[f64; 108], s: [f64; 3], n: [f64; 3], info: f64, c: usize) -> f64
     requires { ⌜ c < 9 ⌝ }
     ensures { λ r. ⌜ r ≡ rowBy (now (t .entry)) s n info c ⌝ }
 {
@@ -55,7 +55,7 @@ pub fn entry(t: &[f64; 108], s: [f64; 3], n: [f64; 3], info: f64, c: usize) -> f
 }
 
 // The first `width` numbers of a match's row.
-pub fn row_of(t: &[f64; 108], s: [f64; 3], n: [f64; 3], info: f64, width: usize, row: &mut [f64; 9])
+fn row_of(t: &[f64; 108], s: [f64; 3], n: [f64; 3], info: f64, width: usize, row: &mut [f64; 9])
     requires { ⌜ (width ≤ 9) × (length (now row) ≡ 9) ⌝ }
     ensures { λ _. ⌜ First width (now (row .exit)) (rowBy (now (t .entry)) s n info) ⌝ }
 {

@@ -19,7 +19,7 @@ returns-2 c =
 
 write-residuals-requires : tie.Need-write-residuals-requires
 write-residuals-requires c κs =
-    let past = c .before .before in
+    let past = c .before in
     let l = past .before in
     let good = fit _ _ _ _ (sym (l .matches-refusal .ensures) ∙ past .if2 .left) in
     (good .action-size, good-outputs _ _ _ _ (sym (l .before .bad-outputs .ensures) ∙ good .fits) .0)
@@ -27,32 +27,31 @@ write-residuals-requires c κs =
 returns-3 : tie.Need-returns-3
 unfolding jacobianOf
 returns-3 c =
-    let wrote = c .before .before in
-    let empty = wrote .before .before in
-    let past = empty .before in
+    let wrote = c .before .before .before in
+    let past = wrote .before .before in
     let l = past .before in
     accepted (asked-is _ _ _ _ _ _ _ (l .before .bad-outputs .ensures) (l .matches-refusal .ensures) ∙ past .if2 .left)
-    (rw (wrote .write-residuals .ensures, eq-eqb _ _ (empty .if3 .taken)))
+    (rw (wrote .write-residuals .ensures, eq-eqb _ _ (c .if3 .taken)))
 
-write-rows-requires : tie.Need-write-rows-requires
-write-rows-requires c κs =
-    let some = c .before .before in
-    let past = some .before in
+jacobian-requires : tie.Need-jacobian-requires
+jacobian-requires c κs =
+    let some = c .before in
+    let past = some .before .before .before .before .before in
     let l = past .before in
     let good = fit _ _ _ _ (sym (l .matches-refusal .ensures) ∙ past .if2 .left) in
     let shape = good-outputs _ _ _ _ (sym (l .before .bad-outputs .ensures) ∙ good .fits) in
-    (good .action-size, good .narrow, shape .0, shape .1 (some .if3 .left))
+    (good .action-size, good .narrow, shape .1 (some .if3 .left))
 
 returns-4 : tie.Need-returns-4
 unfolding jacobianOf
 returns-4 c =
-    let wrote = c .before .before .before .before in
-    let some = wrote .before .before .before in
-    let past = some .before in
+    let filled = c .before .before in
+    let some = filled .before .before in
+    let wrote = some .before .before .before in
+    let past = wrote .before .before in
     let l = past .before in
-    let did = wrote .write-rows .ensures in
     accepted (asked-is _ _ _ _ _ _ _ (l .before .bad-outputs .ensures) (l .matches-refusal .ensures) ∙ past .if2 .left)
-    (rw (did .0, did .1, ne-eqb _ _ (some .if3 .left)))
+    (rw (wrote .write-residuals .ensures, filled .jacobian .ensures, ne-eqb _ _ (some .if3 .left)))
 
 pub linearize-spec : {M : Type 1} → statement M
 linearize-spec =
@@ -65,7 +64,7 @@ linearize-spec =
     write-residuals-requires
     (λ c. search needs)
     returns-3
-    write-rows-requires
+    jacobian-requires
     (λ c. search needs)
     (λ c. search needs)
     returns-4)
