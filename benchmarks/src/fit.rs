@@ -26,13 +26,28 @@ pub fn measure_all() {
             },
             |plane, out| plain::fit(&plane.frames, Some(&plane.fixed), &plane.actions, out),
         );
+        measure_written(
+            "frames_fit",
+            &format!("{frames} frames, Rust with the same tests"),
+            &planes,
+            |plane, out: &mut [f64; 12]| {
+                let frames = plane.frames.as_flattened();
+                let actions = plane.actions.as_flattened();
+                _ = slices::frames_fit(6, frames, &plane.fixed, actions, out);
+            },
+            |plane, out| {
+                let frames = plane.frames.as_flattened();
+                let actions = plane.actions.as_flattened();
+                _ = plain::fit_of_slices(6, frames, &plane.fixed, actions, out);
+            },
+        );
     }
 }
 
 /// The same in plain Rust: the compiler knows every length and inlines all below the outermost function, which is called as
 /// the library's is.
 mod plain {
-    use maghnelt::{ACTION, CENTRED};
+    use maghnelt::{ACTION, CENTRED, MAX_FRAMES};
 
     type Frame = [f64; CENTRED];
     type Action = [f64; ACTION];
@@ -79,6 +94,48 @@ mod plain {
 
     #[inline(never)]
     pub fn fit(frames: &[Frame], fixed: Option<&Frame>, actions: &[Action], out: &mut [f64; 12]) {
+        worked_out(frames, fixed, actions, out);
+    }
+
+    /// The same of slices, with the library's tests of them: the number of the reason to refuse, or 0.
+    #[inline(never)]
+    pub fn fit_of_slices(
+        dof: u32,
+        frames: &[f64],
+        fixed: &[f64],
+        actions: &[f64],
+        out: &mut [f64],
+    ) -> u32 {
+        if dof > 9 {
+            return 1;
+        }
+        if frames.is_empty() {
+            return 2;
+        }
+        let (frames, rest) = frames.as_chunks::<CENTRED>();
+        let (fixed, short) = fixed.as_chunks::<CENTRED>();
+        let whole = rest.is_empty() && short.is_empty();
+        let Ok(out) = out.try_into() else {
+            return 3;
+        };
+        if !whole || frames.len() > MAX_FRAMES || fixed.len() > 1 {
+            return 3;
+        }
+        let (actions, rest) = actions.as_chunks::<ACTION>();
+        if !rest.is_empty() || actions.len() != frames.len() {
+            return 8;
+        }
+        worked_out(frames, fixed.first(), actions, out);
+        0
+    }
+
+    #[inline(always)]
+    fn worked_out(
+        frames: &[Frame],
+        fixed: Option<&Frame>,
+        actions: &[Action],
+        out: &mut [f64; 12],
+    ) {
         let mut total = 0.0;
         let mut weighted = [0.0; 3];
         let mut weigh = |centre: [f64; 3], count: f64| {

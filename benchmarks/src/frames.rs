@@ -104,6 +104,29 @@ fn measure_accumulate<const WIDTH: usize>(planes: &[Plane]) {
         || library(&mut by_library),
         || rust::<WIDTH, WIDTH>(planes, &map, &mut by_rust),
     );
+    let mut by_slices = zeros;
+    let of_slices = |normal: &mut Normal| {
+        for plane in black_box(planes) {
+            _ = plain::accumulate_slices::<WIDTH>(
+                plane.frames.as_flattened(),
+                &plane.fixed,
+                SIGMA,
+                plane.actions.as_flattened(),
+                &plane.decompositions[0],
+                &map,
+                &mut normal.hessian,
+                &mut normal.gradient,
+                &mut normal.cost,
+            );
+        }
+    };
+    measure(
+        "frames_accumulate",
+        &format!("{case}, Rust with the same tests"),
+        planes.len(),
+        || library(&mut by_library),
+        || of_slices(&mut by_slices),
+    );
     if WIDTH < 9 {
         measure(
             "frames_accumulate",
@@ -150,13 +173,39 @@ fn measure_cost(planes: &[Plane]) {
         }
         black_box(cost)
     };
+    let of_slices = || {
+        let mut cost = 0.0;
+        for plane in black_box(planes) {
+            _ = plain::accumulate_slices::<6>(
+                plane.frames.as_flattened(),
+                &plane.fixed,
+                SIGMA,
+                plane.actions.as_flattened(),
+                &plane.decompositions[0],
+                &[],
+                &mut [],
+                &mut [],
+                &mut cost,
+            );
+        }
+        black_box(cost)
+    };
     assert_eq!(library(), rust());
+    assert_eq!(library(), of_slices());
+    let case = format!("{}, cost only", of(planes));
     measure(
         "frames_accumulate",
-        &format!("{}, cost only", of(planes)),
+        &case,
         planes.len(),
         || _ = library(),
         || _ = rust(),
+    );
+    measure(
+        "frames_accumulate",
+        &format!("{case}, Rust with the same tests"),
+        planes.len(),
+        || _ = library(),
+        || _ = of_slices(),
     );
 }
 
@@ -217,7 +266,8 @@ fn measure_linearize<const WIDTH: usize>(planes: &[Plane]) {
 
 /// The same in plain Rust: the compiler inlines all below the outermost functions, which are called as the library's are.
 mod plain {
-    use super::{black_box, ACTION, CENTRED, DECOMPOSITION};
+    use super::{black_box, ACTION, CENTRED, DECOMPOSITION, MAX_ORDER};
+    use maghnelt::{MAX_FRAMES, MAX_WORDS, UNMAPPED};
 
     type Frame = [f64; CENTRED];
     type Action = [f64; ACTION];
@@ -303,6 +353,89 @@ mod plain {
     #[allow(clippy::too_many_arguments)]
     #[inline(never)]
     pub fn accumulate<const WIDTH: usize, const WORKED_OUT: usize>(
+        frames: &[Frame],
+        fixed: Option<&Frame>,
+        sigma: f64,
+        actions: &[Action],
+        decomposition: &Decomposition,
+        map: Option<&[u32]>,
+        hessian: &mut [f64],
+        gradient: &mut [f64],
+    ) -> f64 {
+        worked_out::<WIDTH, WORKED_OUT>(
+            frames,
+            fixed,
+            sigma,
+            actions,
+            decomposition,
+            map,
+            hessian,
+            gradient,
+        )
+    }
+
+    /// The same of slices, with the library's tests of them: the number of the reason to refuse, or 0. An empty map wants no
+    /// blocks; any other has a word for each frame.
+    #[allow(clippy::too_many_arguments)]
+    #[inline(never)]
+    pub fn accumulate_slices<const WIDTH: usize>(
+        frames: &[f64],
+        fixed: &[f64],
+        sigma: f64,
+        actions: &[f64],
+        decomposition: &[f64],
+        map: &[u32],
+        hessian: &mut [f64],
+        gradient: &mut [f64],
+        cost: &mut f64,
+    ) -> u32 {
+        if frames.is_empty() {
+            return 2;
+        }
+        let (frames, rest) = frames.as_chunks::<CENTRED>();
+        let (fixed, short) = fixed.as_chunks::<CENTRED>();
+        let Ok(decomposition) = decomposition.try_into() else {
+            return 3;
+        };
+        let order = gradient.len();
+        let whole = rest.is_empty() && short.is_empty();
+        if !whole || frames.len() > MAX_FRAMES || fixed.len() > 1 {
+            return 3;
+        }
+        if map.len() > MAX_WORDS || order > MAX_ORDER || hessian.len() != order * order {
+            return 3;
+        }
+        if !(sigma.is_finite() && sigma > 0.0) {
+            return 7;
+        }
+        let (actions, rest) = actions.as_chunks::<ACTION>();
+        if !rest.is_empty() || actions.len() != frames.len() {
+            return 8;
+        }
+        if map.iter().any(|&word| word > UNMAPPED) {
+            return 9;
+        }
+        let past = |&word: &u32| word < UNMAPPED && word as usize + WIDTH > order;
+        if map.iter().take(frames.len()).any(past) {
+            return 10;
+        }
+        let wanted = (!map.is_empty()).then_some(map);
+        *cost = worked_out::<WIDTH, WIDTH>(
+            frames,
+            fixed.first(),
+            sigma,
+            actions,
+            decomposition,
+            wanted,
+            hessian,
+            gradient,
+        );
+        0
+    }
+
+    #[allow(clippy::too_many_arguments)]
+    #[inline(always)]
+    fn worked_out<const WIDTH: usize, const WORKED_OUT: usize>(
         frames: &[Frame],
         fixed: Option<&Frame>,
         sigma: f64,
