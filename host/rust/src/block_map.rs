@@ -66,6 +66,19 @@ impl BlockMap {
 
     /// The map that an index list makes of this one: for each place that the list names what this map has there, and nowhere
     /// where the list names none or one past this map's end.
+    ///
+    /// # Examples
+    ///
+    /// ```
+    /// use maghnelt::BlockMap;
+    ///
+    /// # fn main() -> Result<(), maghnelt::Refusal> {
+    /// let map = BlockMap::new([Some(0), Some(6)])?;
+    /// let list = BlockMap::new([Some(1), None, Some(2)])?;
+    /// assert_eq!(map.remapped(&list), BlockMap::new([Some(6), None, None])?);
+    /// # Ok(())
+    /// # }
+    /// ```
     #[must_use]
     pub fn remapped(&self, list: &BlockMap) -> BlockMap {
         let mut out = vec![0; list.0.len()];

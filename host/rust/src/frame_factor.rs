@@ -117,6 +117,19 @@ impl FrameFactor {
     /// # Errors
     ///
     /// [`Refusal::Actions`] if they are not as many as the frames.
+    ///
+    /// # Examples
+    ///
+    /// ```
+    /// use maghnelt::{FrameFactor, Moments, Refusal};
+    ///
+    /// # fn main() -> Result<(), Refusal> {
+    /// let seen = Moments::from_points(&[[0.0, 0.0, 0.0], [2.0, 0.0, 0.0], [0.0, 2.0, 0.0]])?;
+    /// let factor = FrameFactor::new(6, &[seen], None, 0.01)?;
+    /// assert_eq!(factor.fit(&[]).unwrap_err(), Refusal::Actions);
+    /// # Ok(())
+    /// # }
+    /// ```
     pub fn fit(&self, actions: &[Action]) -> Result<FitSums, Refusal> {
         frames_fit(self.dof, &self.frames, self.fixed.as_ref(), actions)
     }
@@ -132,6 +145,29 @@ impl FrameFactor {
     /// [`Refusal::Length`] for an order above [`MAX_ORDER`](crate::MAX_ORDER); [`Refusal::Actions`] if the actions are not as
     /// many as the frames; [`Refusal::Segment`] if a frame's offset plus the dof exceeds the order. The normal equations are
     /// then as they were.
+    ///
+    /// # Examples
+    ///
+    /// ```
+    /// use maghnelt::{Action, BlockMap, Decomposition, FrameFactor, Moments, NormalEquations, Refusal};
+    ///
+    /// # fn main() -> Result<(), Refusal> {
+    /// let corners = [[0.0, 0.0, 0.0], [2.0, 0.0, 0.0], [0.0, 2.0, 0.0], [2.0, 2.0, 0.0]];
+    /// let factor = FrameFactor::new(6, &[Moments::from_points(&corners)?], None, 0.5)?;
+    /// let upright = [[1.0, 0.0, 0.0], [0.0, 1.0, 0.0], [0.0, 0.0, 1.0]];
+    /// let state = [Action::rigid(&upright, &[0.0; 3])];
+    /// let floor = Decomposition { eigenvalues: [4.0, 4.0, 0.0], vectors: upright };
+    ///
+    /// let mut normal = NormalEquations::zeros(6);
+    /// factor.accumulate(&state, &floor, &BlockMap::new([Some(0)])?, &mut normal)?;
+    /// assert_eq!(normal.hessian(2, 2), 16.0);
+    ///
+    /// // Six rows from row 1 on are one too many.
+    /// let past = factor.accumulate(&state, &floor, &BlockMap::new([Some(1)])?, &mut normal);
+    /// assert_eq!(past.unwrap_err(), Refusal::Segment);
+    /// # Ok(())
+    /// # }
+    /// ```
     pub fn accumulate(
         &self,
         actions: &[Action],
@@ -175,6 +211,27 @@ impl FrameFactor {
     ///
     /// [`Refusal::Length`] if `of_frames` has not one for each frame, or there is a fixed set and no `of_fixed`, or the other
     /// way round; [`Refusal::Actions`] if the actions are not as many as the frames.
+    ///
+    /// # Examples
+    ///
+    /// ```
+    /// use maghnelt::{Action, Decomposition, FrameFactor, Moments};
+    ///
+    /// # fn main() -> Result<(), maghnelt::Refusal> {
+    /// let corners = [[0.0, 0.0, 0.0], [2.0, 0.0, 0.0], [0.0, 2.0, 0.0], [2.0, 2.0, 0.0]];
+    /// let factor = FrameFactor::new(6, &[Moments::from_points(&corners)?], None, 0.5)?;
+    /// let upright = [[1.0, 0.0, 0.0], [0.0, 1.0, 0.0], [0.0, 0.0, 1.0]];
+    /// let state = [Action::rigid(&upright, &[0.0; 3])];
+    ///
+    /// // The scatter of one frame that stays where it is serves for the fit and for the frame.
+    /// let floor = Decomposition { eigenvalues: [4.0, 4.0, 0.0], vectors: upright };
+    /// let rows = factor.linearize(&state, &floor, &[floor], None)?;
+    /// assert_eq!(rows.residual(), [0.0; 8]);
+    /// // A metre up moves four points by a metre: the root of 4, over sigma.
+    /// assert_eq!(rows.jacobian(3, 2), 4.0);
+    /// # Ok(())
+    /// # }
+    /// ```
     pub fn linearize(
         &self,
         actions: &[Action],

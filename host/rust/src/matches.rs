@@ -148,6 +148,26 @@ impl MatchList {
     /// [`MAX_MATCHES`](crate::MAX_MATCHES) or an order above [`MAX_ORDER`](crate::MAX_ORDER); [`Refusal::NotFinite`] or
     /// [`Refusal::Sigma`] by the first match whose point is not finite or whose sigma is not finite and positive;
     /// [`Refusal::Segment`] if the offset plus the dof exceeds the order. The normal equations are then as they were.
+    ///
+    /// # Examples
+    ///
+    /// ```
+    /// use maghnelt::{Action, BlockMap, MatchList, NormalEquations, Plane, PlaneMatch};
+    ///
+    /// # fn main() -> Result<(), maghnelt::Refusal> {
+    /// let floor = Plane { normal: [0.0, 0.0, 1.0], offset: 0.0 };
+    /// let matches = MatchList::new(6, [PlaneMatch { point: [0.0, 0.0, 3.0], plane: floor, sigma: 1.0 }]);
+    /// let upright = [[1.0, 0.0, 0.0], [0.0, 1.0, 0.0], [0.0, 0.0, 1.0]];
+    /// let pose = Action::rigid(&upright, &[0.0; 3]);
+    ///
+    /// // The list's rows are 6 to 11.
+    /// let mut normal = NormalEquations::zeros(12);
+    /// assert_eq!(matches.accumulate(&pose, &BlockMap::new([Some(6)])?, &mut normal)?, 9.0);
+    /// assert_eq!(normal.gradient()[8], 3.0);
+    /// assert_eq!(normal.gradient()[..6], [0.0; 6]);
+    /// # Ok(())
+    /// # }
+    /// ```
     pub fn accumulate(
         &self,
         pose: &Action,
@@ -183,6 +203,22 @@ impl MatchList {
     /// # Errors
     ///
     /// As [`cost`](MatchList::cost).
+    ///
+    /// # Examples
+    ///
+    /// ```
+    /// use maghnelt::{Action, MatchList, Plane, PlaneMatch};
+    ///
+    /// # fn main() -> Result<(), maghnelt::Refusal> {
+    /// let floor = Plane { normal: [0.0, 0.0, 1.0], offset: 0.0 };
+    /// let matches = MatchList::new(6, [PlaneMatch { point: [0.0, 0.0, 3.0], plane: floor, sigma: 0.5 }]);
+    /// let upright = [[1.0, 0.0, 0.0], [0.0, 1.0, 0.0], [0.0, 0.0, 1.0]];
+    /// let rows = matches.linearize(&Action::rigid(&upright, &[0.0; 3]))?;
+    /// assert_eq!(rows.residual(), [6.0]);
+    /// assert_eq!(rows.jacobian(0, 2), 2.0);
+    /// # Ok(())
+    /// # }
+    /// ```
     pub fn linearize(&self, pose: &Action) -> Result<Linearized, Refusal> {
         let columns = self.dof.min(9) as usize;
         let mut out = Linearized::zeros(self.len(), columns);
