@@ -36,6 +36,16 @@ pub fn record_at(list: &[f64], size: usize, k: usize) -> &[f64]
     }
 }
 
+// The same of a list that holds the record whole: a loop over records needs no test in each turn.
+fn whole_at(list: &[f64], size: usize, k: usize) -> &[f64]
+    requires { ⌜ size * k + size ≤ length (now list) ⌝ }
+    ensures { λ r. ⌜ now r ≡ recordOf size (now (list .entry)) k ⌝ }
+{
+    let at = size * k;
+    let end = at + size;
+    &list[at..end]
+}
+
 // The numbers of frame k.
 pub fn frame(frames: &[f64], k: usize) -> &[f64]
     ensures { λ r. ⌜ now r ≡ recordOf CENTRED (now (frames .entry)) k ⌝ }
@@ -89,8 +99,8 @@ fn weigh(frames: &[f64], actions: &[f64], count: usize) -> Weighted
         sum: [0.0; 3],
     };
     for k in 0..count {
-        let f = Centred::from_list(frame(frames, k));
-        let w = centre(record_at(actions, ACTION, k), f);
+        let f = Centred::from_list(whole_at(frames, CENTRED, k));
+        let w = centre(whole_at(actions, ACTION, k), f);
         s = s.with_set(w, f.count);
     }
     s
@@ -149,8 +159,8 @@ fn scatter_of(frames: &[f64], actions: &[f64], count: usize, mean: [f64; 3]) -> 
 {
     let mut s = Scatter { entries: [0.0; 9] };
     for k in 0..count {
-        let f = Centred::from_list(frame(frames, k));
-        s = s.with_part(spread_of(record_at(actions, ACTION, k), f, mean));
+        let f = Centred::from_list(whole_at(frames, CENTRED, k));
+        s = s.with_part(spread_of(whole_at(actions, ACTION, k), f, mean));
     }
     s
 }

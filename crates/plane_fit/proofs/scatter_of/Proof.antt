@@ -16,10 +16,10 @@ abbrev μ-loop : tie.MeasureT-loop
 μ-loop frames actions count mean s₀ k₀ s k = count - k
 
 from-list-requires : tie.Need-from-list-requires Inv-loop μ-loop
-from-list-requires c κs = rw (c .frame .ensures) (record-length 13 _ (c .before .before .loop .k) (omega arith))
+from-list-requires c κs = rw (c .whole-at .ensures) (record-length 13 _ (c .before .before .loop .k) (omega arith))
 
 spread-of-requires : tie.Need-spread-of-requires Inv-loop μ-loop
-spread-of-requires c κs = rw (c .record-at .ensures) (record-length 120 _ (c .before .before .before .before .loop .k) (omega arith))
+spread-of-requires c κs = rw (c .whole-at2 .ensures) (record-length 120 _ (c .before .before .before .before .loop .k) (omega arith))
 
 loop-again : tie.Need-loop-again Inv-loop μ-loop
 loop-again c =
@@ -28,7 +28,7 @@ loop-again c =
       search needs,
       c .with-part .ensures
           ∙ spread-more _ _ _ _ _ (at .k) (at .inv .1)
-          (c .before .spread-of .ensures ∙ part-is _ _ _ _ _ (at .k) (r .record-at .ensures) (r .before .from-list .ensures ∙ ap centredOf (r .before .before .frame .ensures))),
+          (c .before .spread-of .ensures ∙ part-is _ _ _ _ _ (at .k) (r .whole-at2 .ensures) (r .before .from-list .ensures ∙ ap centredOf (r .before .before .whole-at .ensures))),
     )
 
 returns : tie.Need-returns Inv-loop μ-loop
@@ -43,7 +43,7 @@ scatter-of-spec =
     Inv-loop
     μ-loop
     (λ c. search needs)
-    (λ c κs. tt)
+    (λ c κs. omega arith)
     from-list-requires
     (λ c κs. omega arith)
     spread-of-requires

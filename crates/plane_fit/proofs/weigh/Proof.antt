@@ -17,17 +17,17 @@ abbrev μ-loop : tie.MeasureT-loop
 μ-loop frames actions count s₀ k₀ s k = count - k
 
 from-list-requires : tie.Need-from-list-requires Inv-loop μ-loop
-from-list-requires c κs = rw (c .frame .ensures) (record-length 13 _ (c .before .before .loop .k) (omega arith))
+from-list-requires c κs = rw (c .whole-at .ensures) (record-length 13 _ (c .before .before .loop .k) (omega arith))
 
 centre-requires : tie.Need-centre-requires Inv-loop μ-loop
-centre-requires c κs = rw (c .record-at .ensures) (record-length 120 _ (c .before .before .before .before .loop .k) (omega arith))
+centre-requires c κs = rw (c .whole-at2 .ensures) (record-length 120 _ (c .before .before .before .before .loop .k) (omega arith))
 
 loop-again : tie.Need-loop-again Inv-loop μ-loop
 unfolding countAt weightedAt
 loop-again c =
     let r = c .before .before in
     let at = r .before .before .before .before .loop in
-    (search needs, rw (c .with-set .ensures, c .before .centre .ensures, r .record-at .ensures, r .before .from-list .ensures, r .before .before .frame .ensures, at .inv .1, add-one (at .k)))
+    (search needs, rw (c .with-set .ensures, c .before .centre .ensures, r .whole-at2 .ensures, r .before .from-list .ensures, r .before .before .whole-at .ensures, at .inv .1, add-one (at .k)))
 
 returns : tie.Need-returns Inv-loop μ-loop
 returns c =
@@ -41,7 +41,7 @@ weigh-spec =
     Inv-loop
     μ-loop
     (λ c. search needs)
-    (λ c κs. tt)
+    (λ c κs. omega arith)
     from-list-requires
     (λ c κs. omega arith)
     centre-requires
