@@ -340,14 +340,21 @@ fn made_up_eigenvalues(generator: &mut Generator) -> [f64; 3] {
     eigenvalues
 }
 
-/// Every three of the patterns at which an order or a gap turns.
-pub fn turning_eigenvalues() -> impl Iterator<Item = [f64; 3]> {
-    const PATTERNS: [u64; 14] = [
+/// The patterns about the least gap of the fit: 1e-14, which is not above it, the number after it, and 200 times 1e-14.
+pub const GAPS_OF_THE_FIT: [u64; 3] = [
+    0x3D06_849B_86A1_2B9B,
+    0x3D06_849B_86A1_2B9C,
+    0x3D81_9799_812D_EA11,
+];
+
+/// Every three of the patterns at which an order turns, or a gap by a rule whose patterns are given.
+pub fn turning_eigenvalues(gaps: [u64; 3]) -> impl Iterator<Item = [f64; 3]> {
+    let patterns = [
         0x0000_0000_0000_0000,
         0x8000_0000_0000_0000,
-        0x3D06_849B_86A1_2B9B, // 1e-14, which is not above the least gap
-        0x3D06_849B_86A1_2B9C,
-        0x3D81_9799_812D_EA11, // 200 times that
+        gaps[0],
+        gaps[1],
+        gaps[2],
         0xBD06_849B_86A1_2B9B,
         0x3FF0_0000_0000_0000,
         0x4069_0000_0000_0000, // 200
@@ -359,7 +366,7 @@ pub fn turning_eigenvalues() -> impl Iterator<Item = [f64; 3]> {
         0xFFFF_FFFF_FFFF_FFFF,
     ];
     let three = |k: usize| [k % 14, k / 14 % 14, k / 196];
-    (0..14 * 14 * 14).map(move |k| three(k).map(|place| f64::from_bits(PATTERNS[place])))
+    (0..14 * 14 * 14).map(move |k| three(k).map(|place| f64::from_bits(patterns[place])))
 }
 
 #[cfg(test)]

@@ -8,6 +8,7 @@ use crate::model::{frames as model, LENGTH, SIGMA};
 use crate::report::Report;
 use crate::scenes::{
     bad_sigma, fit_decomposition, some_frames, some_sigma, turning_eigenvalues, Scene,
+    GAPS_OF_THE_FIT,
 };
 use crate::targets::{ends_of_segments, Destination};
 use maghnelt::{slices as library, DECOMPOSITION, MAX_FRAMES, MAX_ORDER, UNMAPPED};
@@ -107,7 +108,7 @@ fn compare(call: &Call<'_, 8, 2>, generator: &mut Generator, count: u64, report:
             comparison.check(&case.lent(generator), report);
         }
     }
-    for eigenvalues in turning_eigenvalues() {
+    for eigenvalues in turning_eigenvalues(GAPS_OF_THE_FIT) {
         let mut case = Case::of(Scene::of_a_wall(1, generator), generator);
         case.decomposition[..3].copy_from_slice(&eigenvalues);
         comparison.check(&case.lent(generator), report);

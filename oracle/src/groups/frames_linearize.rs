@@ -8,7 +8,7 @@ use crate::model::{frames as model, LENGTH, SIGMA};
 use crate::report::Report;
 use crate::scenes::{
     bad_sigma, fit_decomposition, set_decomposition, some_frames, some_sigma, turning_eigenvalues,
-    Scene,
+    Scene, GAPS_OF_THE_FIT,
 };
 use maghnelt::{slices as library, CENTRED, DECOMPOSITION, MAX_FRAMES};
 
@@ -121,7 +121,7 @@ fn compare(
         }
     }
     // Of the fit, and of the frame.
-    for eigenvalues in turning_eigenvalues() {
+    for eigenvalues in turning_eigenvalues(GAPS_OF_THE_FIT) {
         for place in [0, DECOMPOSITION] {
             let mut case = Case::of(Scene::of_a_wall(1, generator), generator);
             case.decompositions[place..place + 3].copy_from_slice(&eigenvalues);

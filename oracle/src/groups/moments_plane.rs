@@ -6,6 +6,7 @@ use crate::lent::{number, Call, Comparison};
 use crate::model::moments as model;
 use crate::patterns::{self, SIGN};
 use crate::report::Report;
+use crate::scenes::turning_eigenvalues;
 use maghnelt::{slices as library, DECOMPOSITION, MOMENTS};
 
 /// The least gap that is accepted.
@@ -30,7 +31,7 @@ fn compare(call: &Call<'_, 3>, generator: &mut Generator, count: u64, report: &m
     );
     let right = [Some(MOMENTS), Some(DECOMPOSITION), Some(7)];
     comparison.check_lengths(right, generator, report);
-    for eigenvalues in fixed_eigenvalues() {
+    for eigenvalues in turning_eigenvalues(GAPS) {
         let mut decomposition = numbers::<DECOMPOSITION>(generator);
         decomposition[..3].copy_from_slice(&eigenvalues);
         let moments = record_of(&Wall::random(generator), generator);
@@ -47,27 +48,12 @@ fn compare(call: &Call<'_, 3>, generator: &mut Generator, count: u64, report: &m
     }
 }
 
-/// Every three of the patterns at which an order or a gap turns.
-fn fixed_eigenvalues() -> impl Iterator<Item = [f64; 3]> {
-    const PATTERNS: [u64; 14] = [
-        0x0000_0000_0000_0000,
-        0x8000_0000_0000_0000,
-        0x3D06_849B_86A1_2B9A, // just below the least gap
-        0x3D06_849B_86A1_2B9B, // the least gap
-        0x3D16_849B_86A1_2B9B, // twice the least gap
-        0xBD06_849B_86A1_2B9B,
-        0x3FF0_0000_0000_0000,
-        0x4069_0000_0000_0000, // 200
-        0x7FF0_0000_0000_0000,
-        0xFFF0_0000_0000_0000,
-        0x7FF8_0000_0000_0000,
-        0x7FF0_0000_0000_0001,
-        0xFFF8_0000_0000_0000,
-        0xFFFF_FFFF_FFFF_FFFF,
-    ];
-    let three = |k: usize| [k % 14, k / 14 % 14, k / 196];
-    (0..14 * 14 * 14).map(move |k| three(k).map(|place| f64::from_bits(PATTERNS[place])))
-}
+/// The patterns about the least gap of moments: just below 1e-14, 1e-14, and twice that.
+const GAPS: [u64; 3] = [
+    0x3D06_849B_86A1_2B9A,
+    0x3D06_849B_86A1_2B9B,
+    0x3D16_849B_86A1_2B9B,
+];
 
 /// The axes and mean squares of a wall in any order; or any vectors, with eigenvalues that are equal, close to each
 /// other or of any kind.
