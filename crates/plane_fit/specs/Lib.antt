@@ -1,4 +1,5 @@
 pub mod Records
+pub mod Batch
 pub mod Fit
 pub mod Steps
 pub mod Calls

@@ -11,6 +11,7 @@ ghost use Rattle.sums.specs.Sum.{plus, grid, product, transpose};
 ghost use Rattle.derivative.specs.Action.{actionSize};
 ghost use Rattle.point_moments.specs.Scatter.{CENTRED};
 ghost use Rattle.plane_fit.specs.Records.{recordOf};
+ghost use Rattle.plane_fit.specs.Batch.{batchSize};
 ghost use Rattle.plane_fit.specs.Fit.{Shaped, centre, turned, spread, fitMean, scatterAbout, fitList};
 ghost use Rattle.plane_fit.specs.Calls.{badRecords, badFrames, badFixed, badCount, badActions, fitRefusal};
 ghost use Rattle.plane_fit.specs.Steps.{withSet, weighed, difference, spreadUpto, meanOf};
@@ -37,13 +38,22 @@ pub fn record_at(list: &[f64], size: usize, k: usize) -> &[f64]
 }
 
 // The same of a list that holds the record whole: a loop over records needs no test in each turn.
-fn whole_at(list: &[f64], size: usize, k: usize) -> &[f64]
+pub fn whole_at(list: &[f64], size: usize, k: usize) -> &[f64]
     requires { ⌜ size * k + size ≤ length (now list) ⌝ }
     ensures { λ r. ⌜ now r ≡ recordOf size (now (list .entry)) k ⌝ }
 {
     let at = size * k;
     let end = at + size;
     &list[at..end]
+}
+
+// How many of `count` frames are in a batch of at most `most` that starts at frame `from`.
+pub fn batch_size(count: usize, from: usize, most: usize) -> usize
+    requires { ⌜ from ≤ count ⌝ }
+    ensures { λ r. ⌜ r ≡ batchSize count from most ⌝ }
+{
+    let left = count - from;
+    if left < most { left } else { most }
 }
 
 // The numbers of frame k.
