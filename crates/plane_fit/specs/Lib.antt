@@ -2,5 +2,6 @@ pub mod Records
 pub mod Batch
 pub mod Fit
 pub mod Steps
+pub mod Parts
 pub mod Calls
 pub mod Axis

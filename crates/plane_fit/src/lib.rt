@@ -12,6 +12,7 @@ ghost use Rattle.derivative.specs.Action.{actionSize};
 ghost use Rattle.point_moments.specs.Scatter.{CENTRED};
 ghost use Rattle.plane_fit.specs.Records.{recordOf};
 ghost use Rattle.plane_fit.specs.Batch.{batchSize};
+ghost use Rattle.plane_fit.specs.Parts.{BATCH, partOf, Put, Held, withParts};
 ghost use Rattle.plane_fit.specs.Fit.{Shaped, centre, turned, spread, fitMean, scatterAbout, fitList};
 ghost use Rattle.plane_fit.specs.Calls.{badRecords, badFrames, badFixed, badCount, badActions, fitRefusal};
 ghost use Rattle.plane_fit.specs.Steps.{withSet, weighed, difference, spreadUpto, meanOf};
@@ -162,15 +163,82 @@ impl Scatter {
     }
 }
 
+// How many frames' parts are worked out before they are added.
+const BATCH: usize = 8;
+
+// Puts a part into the parts of a batch as that of its k-th frame.
+fn put_part(parts: &mut [f64; 72], k: usize, part: [f64; 9])
+    requires { ⌜ (k < BATCH) × (length (now parts) ≡ 72) ⌝ }
+    ensures { λ _. ⌜ Put 9 k part (now (parts .entry)) (now (parts .exit)) ⌝ }
+{
+    for e in 0..9 {
+        parts[e * BATCH + k] = part[e];
+    }
+}
+
+// The part of the k-th frame of a batch.
+fn part_at(parts: &[f64; 72], k: usize) -> [f64; 9]
+    requires { ⌜ k < BATCH ⌝ }
+    ensures { λ r. ⌜ r ≡ partOf (now (parts .entry)) k ⌝ }
+{
+    [
+        parts[k],
+        parts[k + BATCH],
+        parts[k + 2 * BATCH],
+        parts[k + 3 * BATCH],
+        parts[k + 4 * BATCH],
+        parts[k + 5 * BATCH],
+        parts[k + 6 * BATCH],
+        parts[k + 7 * BATCH],
+        parts[k + 8 * BATCH],
+    ]
+}
+
+// The parts of a batch of frames from frame `from` on, entry after entry: entry e of the batch's k-th frame is number e * BATCH + k, so that
+// the loop's stores are neighbours and the compiler works out two frames at a time.
+fn fill_parts(
+    frames: &[f64],
+    actions: &[f64],
+    from: usize,
+    size: usize,
+    mean: [f64; 3],
+    parts: &mut [f64; 72],
+)
+    requires { ⌜ (CENTRED * (from + size) ≤ length (now frames)) × (actionSize * (from + size) ≤ length (now actions)) × (size ≤ BATCH) × (length (now parts) ≡ 72) ⌝ }
+    ensures { λ _. ⌜ Held (now (frames .entry)) (now (actions .entry)) mean from size (now (parts .exit)) ⌝ }
+{
+    for k in 0..size {
+        let f = Centred::from_list(whole_at(frames, CENTRED, from + k));
+        let part = spread_of(whole_at(actions, ACTION, from + k), f, mean);
+        put_part(parts, k, part);
+    }
+}
+
+// A scatter with the parts of a batch.
+fn with_parts(s: Scatter, parts: &[f64; 72], size: usize) -> Scatter
+    requires { ⌜ size ≤ BATCH ⌝ }
+    ensures { λ r. ⌜ r .entries ≡ withParts (s .entries) (now (parts .entry)) size ⌝ }
+{
+    let mut r = s;
+    for k in 0..size {
+        r = r.with_part(part_at(parts, k));
+    }
+    r
+}
+
 // The scatter of the first `count` frames about `mean`.
 fn scatter_of(frames: &[f64], actions: &[f64], count: usize, mean: [f64; 3]) -> Scatter
     requires { ⌜ (CENTRED * count ≤ length (now frames)) × (actionSize * count ≤ length (now actions)) ⌝ }
     ensures { λ r. ⌜ r .entries ≡ spreadUpto (now (frames .entry)) (now (actions .entry)) mean count ⌝ }
 {
     let mut s = Scatter { entries: [0.0; 9] };
-    for k in 0..count {
-        let f = Centred::from_list(whole_at(frames, CENTRED, k));
-        s = s.with_part(spread_of(whole_at(actions, ACTION, k), f, mean));
+    let mut parts = [0.0; 72];
+    let mut from = 0;
+    while from < count {
+        let size = batch_size(count, from, BATCH);
+        fill_parts(frames, actions, from, size, mean, &mut parts);
+        s = with_parts(s, &parts, size);
+        from = from + size;
     }
     s
 }

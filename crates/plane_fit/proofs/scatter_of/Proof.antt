@@ -1,40 +1,63 @@
--- `plane_fit::scatter_of` meets its contract: after k turns the parts of the first k frames are added. Assumes nothing.
-use mathlib.Core.Path.{_≡_, ap, _∙_}
-use Prim.Native.Nat.{_≤_, _-_}
+-- `plane_fit::scatter_of` meets its contract: before each batch the parts of the frames before it are added. Assumes nothing.
+use mathlib.Core.Path.{_≡_, _∙_}
+use Prim.Native.Nat.{ℕ, _≤_, _<_, _+_, _-_}
 use native.Mathlib.Omega.{arith}
 use borrow.Author.Needs.{needs}
-use Rattle.plane_fit.specs.Records.{record-length}
-use Rattle.point_moments.specs.Scatter.{centredOf}
-use Rattle.plane_fit.specs.Steps.{spreadUpto, spread-more, part-is}
+use lib.ListN.{length}
+use Rattle.plane_fit.specs.Batch.{batchSize, batch-fits}
+use Rattle.plane_fit.specs.Steps.{spreadUpto}
+use Rattle.plane_fit.specs.Parts.{BATCH, batch-more}
 use Rattle.plane_fit.proofs.scatter_of.Statement.{statement}
 use Rattle.plane_fit.proofs.scatter_of.Tie as tie
 
 abbrev Inv-loop : tie.InvT-loop
-Inv-loop frames actions count mean s₀ k₀ s k = (k ≤ count) × (s .entries ≡ spreadUpto frames actions mean k)
+Inv-loop frames actions count mean s₀ parts₀ from₀ s parts from =
+    (from ≤ count) × (length parts ≡ 72) × (s .entries ≡ spreadUpto frames actions mean from)
 
 abbrev μ-loop : tie.MeasureT-loop
-μ-loop frames actions count mean s₀ k₀ s k = count - k
+μ-loop frames actions count mean s₀ parts₀ from₀ s parts from = count - from
 
-from-list-requires : tie.Need-from-list-requires Inv-loop μ-loop
-from-list-requires c κs = rw (c .whole-at .ensures) (record-length 13 _ (c .before .before .loop .k) (omega arith))
+-- the batch's size is within its bounds
+fits : {count from size : ℕ} → from < count → size ≡ batchSize count from BATCH → (0 < size) × (size ≤ BATCH) × (from + size ≤ count)
+fits {count} {from} h e = rw e (batch-fits count from 8 h (omega arith))
 
-spread-of-requires : tie.Need-spread-of-requires Inv-loop μ-loop
-spread-of-requires c κs = rw (c .whole-at2 .ensures) (record-length 120 _ (c .before .before .before .before .loop .k) (omega arith))
+fill-parts-requires : tie.Need-fill-parts-requires Inv-loop μ-loop
+fill-parts-requires c κs =
+    let b = c .before in
+    let f = fits (b .before .loop-test .taken) (b .batch-size .ensures) in
+    (omega arith, omega arith, f .1, search needs)
+
+with-parts-requires : tie.Need-with-parts-requires Inv-loop μ-loop
+with-parts-requires c κs =
+    let b = c .before .before .before in
+    let f = fits (b .before .loop-test .taken) (b .batch-size .ensures) in
+    omega arith
+
+add-from : tie.Need-add-from Inv-loop μ-loop
+add-from c =
+    let b = c .before .before .before .before in
+    let f = fits (b .before .loop-test .taken) (b .batch-size .ensures) in
+    omega arith
+
+loop-less : tie.Need-loop-less Inv-loop μ-loop
+loop-less c =
+    let b = c .before .before .before .before in
+    let f = fits (b .before .loop-test .taken) (b .batch-size .ensures) in
+    omega arith
 
 loop-again : tie.Need-loop-again Inv-loop μ-loop
 loop-again c =
-    let r = c .before .before in
-    let at = r .before .before .before .before .loop in (
-      search needs,
-      c .with-part .ensures
-          ∙ spread-more _ _ _ _ _ (at .k) (at .inv .1)
-          (c .before .spread-of .ensures ∙ part-is _ _ _ _ _ (at .k) (r .whole-at2 .ensures) (r .before .from-list .ensures ∙ ap centredOf (r .before .before .whole-at .ensures))),
-    )
+    let filled = c .before .before in
+    let b = filled .before .before in
+    let f = fits (b .before .loop-test .taken) (b .batch-size .ensures) in
+    let at = b .before .before .loop in
+    let held = filled .fill-parts .ensures in
+    (f .2, held .size, c .with-parts .ensures ∙ batch-more _ _ _ _ _ (at .from) _ (at .inv .2) (held .each))
 
 returns : tie.Need-returns Inv-loop μ-loop
 returns c =
-    let e : c .before .before .before .before .args .count ≡ c .before .loop .k = omega arith in
-    rw e (c .before .loop .inv .1)
+    let e : c .before .before .before .before .args .count ≡ c .before .loop .from = omega arith in
+    rw e (c .before .loop .inv .2)
 
 pub scatter-of-spec : {M : Type 1} → statement M
 scatter-of-spec =
@@ -43,12 +66,10 @@ scatter-of-spec =
     Inv-loop
     μ-loop
     (λ c. search needs)
-    (λ c κs. omega arith)
-    from-list-requires
-    (λ c κs. omega arith)
-    spread-of-requires
-    (λ c κs. tt)
-    (λ c. omega arith)
-    (λ c. omega arith)
+    (λ c κs. search needs)
+    fill-parts-requires
+    with-parts-requires
+    add-from
+    loop-less
     loop-again
     returns)
