@@ -1,11 +1,14 @@
 // What a frame and the fixed set cost under a plane.
 use derivative::ACTION;
+use point_moments::scatter::CENTRED;
 use point_moments::scatter::Centred;
 ghost use mathlib.Core.Path.{_≡_};
 ghost use mathlib.Core.Logic.{_⊎_};
-ghost use Prim.Native.Nat.{_*_, _≤_};
+ghost use Prim.Native.Nat.{_+_, _*_, _≤_};
 ghost use lib.ListN.{length};
-ghost use Rattle.sums.specs.Sum.{sumFromZero};
+ghost use Rattle.sums.specs.Sum.{sumFrom, sumFromZero};
+ghost use Rattle.sums.specs.Fill.{First};
+ghost use Rattle.lists.specs.Part.{_!_};
 ghost use Rattle.derivative.specs.Action.{actionSize};
 ghost use Rattle.point_moments.specs.Scatter.{CENTRED};
 ghost use Rattle.frame_normal.specs.Normal.{normalIn};
@@ -47,6 +50,43 @@ pub fn frame_pull(x: &[f64], f: Centred, normal: [f64; 3], offset: f64, weight: 
     set_pull(f, a, along, weight)
 }
 
+// How many frames' costs are worked out before they are summed.
+const BATCH: usize = 8;
+
+// What each frame of a batch from frame `from` on costs: the loop's stores are neighbours, so that the compiler works out two frames at a time.
+fn fill_costs(
+    frames: &[f64],
+    actions: &[f64],
+    from: usize,
+    size: usize,
+    normal: [f64; 3],
+    offset: f64,
+    weight: f64,
+    costs: &mut [f64; 8],
+)
+    requires { ⌜ (CENTRED * (from + size) ≤ length (now frames)) × (actionSize * (from + size) ≤ length (now actions)) × (size ≤ 8) × (length (now costs) ≡ 8) ⌝ }
+    ensures { λ _. ⌜ (length (now (costs .exit)) ≡ 8) × First size (now (costs .exit)) (λ k. costAt (now (frames .entry)) (now (actions .entry)) normal offset weight (from + k)) ⌝ }
+{
+    for k in 0..size {
+        let f = Centred::from_list(plane_fit::whole_at(frames, CENTRED, from + k));
+        let x = plane_fit::whole_at(actions, ACTION, from + k);
+        let p = frame_pull(x, f, normal, offset, weight);
+        costs[k] = p.cost;
+    }
+}
+
+// A sum with the first `size` costs of a batch.
+fn with_costs(sum: f64, costs: &[f64; 8], size: usize) -> f64
+    requires { ⌜ size ≤ 8 ⌝ }
+    ensures { λ r. ⌜ r ≡ sumFrom sum size (λ k. now (costs .entry) ! k) ⌝ }
+{
+    let mut s = sum;
+    for k in 0..size {
+        s = s + costs[k];
+    }
+    s
+}
+
 // What the first `count` frames cost.
 pub fn frames_cost(
     frames: &[f64],
@@ -60,16 +100,22 @@ pub fn frames_cost(
     ensures { λ r. ⌜ r ≡ sumFromZero count (costAt (now (frames .entry)) (now (actions .entry)) normal offset weight) ⌝ }
 {
     let mut sum = 0.0;
-    for k in 0..count {
-        let f = Centred::from_list(plane_fit::frame(frames, k));
-        let p = frame_pull(
-            plane_fit::record_at(actions, ACTION, k),
-            f,
+    let mut costs = [0.0; 8];
+    let mut from = 0;
+    while from < count {
+        let size = plane_fit::batch_size(count, from, BATCH);
+        fill_costs(
+            frames,
+            actions,
+            from,
+            size,
             normal,
             offset,
             weight,
+            &mut costs,
         );
-        sum = sum + p.cost;
+        sum = with_costs(sum, &costs, size);
+        from = from + size;
     }
     sum
 }

@@ -1,39 +1,67 @@
--- `frame_cost::frames_cost` meets its contract: after k turns the costs of the first k frames are summed. Assumes nothing.
-use mathlib.Core.Path.{_≡_}
-use Prim.Native.Nat.{_≤_, _-_}
-use native.Mathlib.Numerals.{add-one}
+-- `frame_cost::frames_cost` meets its contract: whenever a batch starts, the costs of the frames before it are summed. Assumes nothing.
+use mathlib.Core.Path.{_≡_, refl, sym, _∙_}
+use Prim.Native.Nat.{ℕ, _+_, _≤_, _<_, _-_}
 use native.Mathlib.Omega.{arith}
+use lib.ListN.{length}
 use borrow.Author.Needs.{needs}
-use Rattle.sums.specs.Sum.{sumFromZero}
-use Rattle.plane_fit.specs.Records.{record-length}
-use Rattle.frame_cost.specs.Cost.{frameCost, costAt}
+use Rattle.sums.specs.Sum.{zeroF, sumFrom, sumFromZero}
+use Rattle.sums.specs.Laws.{sumFrom-same, sumFrom-parts}
+use Rattle.plane_fit.specs.Batch.{batchSize, batch-fits}
+use Rattle.frame_cost.specs.Cost.{costAt}
 use Rattle.frame_cost.proofs.frames_cost.Statement.{statement}
 use Rattle.frame_cost.proofs.frames_cost.Tie as tie
 
 abbrev Inv-loop : tie.InvT-loop
-Inv-loop frames actions normal offset weight count sum₀ k₀ sum k = (k ≤ count) × (sum ≡ sumFromZero k (costAt frames actions normal offset weight))
+Inv-loop frames actions normal offset weight count sum₀ costs₀ from₀ sum costs from =
+    (from ≤ count) × (length costs ≡ 8) × (sum ≡ sumFromZero from (costAt frames actions normal offset weight))
 
 abbrev μ-loop : tie.MeasureT-loop
-μ-loop frames actions normal offset weight count sum₀ k₀ sum k = count - k
+μ-loop frames actions normal offset weight count sum₀ costs₀ from₀ sum costs from = count - from
 
-from-list-requires : tie.Need-from-list-requires Inv-loop μ-loop
-from-list-requires c κs = rw (c .frame .ensures) (record-length 13 _ _ (omega arith))
+-- a batch of the frames from `from` on is not empty, fits the array, and ends within the frames
+batch : {count from size : ℕ} → size ≡ batchSize count from 8 → from < count → (0 < size) × (size ≤ 8) × (from + size ≤ count)
+batch {count} {from} e h = rw e (batch-fits count from 8 h (omega arith))
 
-frame-pull-requires : tie.Need-frame-pull-requires Inv-loop μ-loop
-frame-pull-requires c κs = rw (c .record-at .ensures) (record-length 120 _ _ (omega arith))
+fill-costs-requires : tie.Need-fill-costs-requires Inv-loop μ-loop
+fill-costs-requires c κs =
+    let b = c .before in
+    let fits = batch (b .batch-size .ensures) (b .before .loop-test .taken) in
+    (omega (arith, fits), omega (arith, fits), fits .1, search needs)
+
+with-costs-requires : tie.Need-with-costs-requires Inv-loop μ-loop
+with-costs-requires c κs =
+    let b = c .before .before .before in
+    batch (b .batch-size .ensures) (b .before .loop-test .taken) .1
+
+add-from : tie.Need-add-from Inv-loop μ-loop
+add-from c =
+    let b = c .before .before .before .before in
+    omega (arith, batch (b .batch-size .ensures) (b .before .loop-test .taken))
+
+loop-less : tie.Need-loop-less Inv-loop μ-loop
+loop-less c =
+    let b = c .before .before .before .before in
+    omega (arith, batch (b .batch-size .ensures) (b .before .loop-test .taken))
 
 loop-again : tie.Need-loop-again Inv-loop μ-loop
-unfolding costAt frameCost
 loop-again c =
-    let p = c .before in
-    let r = p .before in
-    let at = r .before .before .before .before .loop in
-    (search needs, rw (p .frame-pull .ensures, r .record-at .ensures, r .before .from-list .ensures, r .before .before .frame .ensures, at .inv .1, add-one (at .k)))
+    let filled = c .before .before in
+    let b = filled .before .before in
+    let at = b .before .before .loop in
+    let a = b .before .before .before .before .before .args in
+    let size = b .batch-size .result in
+    let cost = costAt (a .frames .now) (a .actions .now) (a .normal) (a .offset) (a .weight) in
+    let batched : c .with-costs .result ≡ sumFrom (at .sum) size (λ k. cost (at .from + k)) = c .with-costs .ensures ∙ sumFrom-same (at .sum) size _ _ (filled .fill-costs .ensures .1) in (
+      batch (b .batch-size .ensures) (b .before .loop-test .taken) .2,
+      filled .fill-costs .ensures .0,
+      rw (at .inv .2) at batched ∙ sym (sumFrom-parts zeroF (at .from) size cost),
+    )
 
 returns : tie.Need-returns Inv-loop μ-loop
 returns c =
-    let e : c .before .before .before .before .args .count ≡ c .before .loop .k = omega arith in
-    rw e (c .before .loop .inv .1)
+    let at = c .before .loop in
+    let e : c .before .before .before .before .args .count ≡ at .from = omega arith in
+    rw e (at .inv .2)
 
 pub frames-cost-spec : {M : Type 1} → statement M
 frames-cost-spec =
@@ -41,12 +69,11 @@ frames-cost-spec =
     (tie.spec
     Inv-loop
     μ-loop
-    (λ c. search needs)
-    (λ c κs. tt)
-    from-list-requires
-    (λ c κs. omega arith)
-    frame-pull-requires
-    (λ c. omega arith)
-    (λ c. omega arith)
+    (λ c. (search needs, search needs, refl))
+    (λ c κs. search needs)
+    fill-costs-requires
+    with-costs-requires
+    add-from
+    loop-less
     loop-again
     returns)
