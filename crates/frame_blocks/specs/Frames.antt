@@ -1,6 +1,7 @@
 -- All frames of a call under a plane: what each of them adds where, and what they cost with the fixed set. Assumes nothing.
 use Prim.Native.Nat.{ℕ, zero, suc, _+_, _*_, _≤_, _<_}
 use native.Mathlib.Numerals.{add-one}
+use native.Mathlib.Nat.{add-zero, add-assoc}
 use mathlib.Core.Path.{_≡_, refl, sym, ap, ap₂, _∙_}
 use native.Mathlib.Omega.{arith}
 use mathlib.Core.Bool.{false}
@@ -20,11 +21,12 @@ use Rattle.call_lists.specs.Frames.{Frames, frameHessian, frameGradient}
 use Rattle.call_lists.specs.FrameLaws.{hessian-more, gradient-more}
 use Rattle.derivative.specs.Action.{actionSize}
 use Rattle.point_moments.specs.declared.scatter.Centred.{Centred}
-use Rattle.frame_normal.specs.Normal.{normalIn}
 use Rattle.plane_fit.specs.Fit.{frameCount, frameAt, actionAt, andFixed}
+use Rattle.plane_fit.specs.Batch.{batchSize, batch-fits}
 use Rattle.frame_blocks.specs.Frame.{blockEntry, pulledEntry, vectorEntry}
-use Rattle.frame_blocks.specs.Steps.{Added}
-use Rattle.frame_cost.specs.Cost.{pullOf, frameAlong, frameCost, fixedCost, costAt, framesCost}
+use Rattle.frame_blocks.specs.Steps.{Added, Held}
+use Rattle.frame_blocks.specs.Pulls.{BATCH, pullAt, pullIn, Pulled}
+use Rattle.frame_cost.specs.Cost.{frameCost, fixedCost, costAt, framesCost}
 use Rattle.frame_cost.specs.declared.Pull.{Pull}
 
 -- each frame goes where the map says, `dof` rows wide, with its block and its vector under the plane
@@ -44,17 +46,21 @@ pub record Ready (cells order dof : ℕ) (frames actions : List Float) (map : Li
   pub acted : actionSize * frameCount frames ≤ length actions
   pub fits : someExceeds order (λ k. dof) (lookup map) (frameCount frames) ≡ false
 
--- one frame, at the place p: its cost, and what it adds there
-pub record FrameAdded (x : List Float) (f : Centred) (n : List Float) (offset weight : Float) (order dof : ℕ) (p : Place) (r : Float) (h h′ g g′ : List Float) : Type 0 where
-  pub cost : r ≡ frameCost x f n offset weight
+-- one frame with a pull, at the place p: what it adds there
+pub record FrameAdded (x : List Float) (f : Centred) (n : List Float) (s : Pull) (weight : Float) (order dof : ℕ) (p : Place) (h h′ g g′ : List Float) : Type 0 where
   pub hessian : h′ ≡ addAll h (hessianAt order dof p (blockEntry x f n weight))
-  pub gradient : g′ ≡ addAll g (gradientAt dof p (vectorEntry x f n offset weight))
+  pub gradient : g′ ≡ addAll g (gradientAt dof p (pulledEntry x f n (s .turn) (s .shift) weight))
 
 -- the loop over the frames, after k of them
 pub record Summed (order dof : ℕ) (frames actions : List Float) (map : List ℕ) (n : List Float) (offset weight : Float) (k : ℕ) (s : Float) (h h′ g g′ : List Float) : Type 0 where
   pub cost : s ≡ sumFromZero k (costAt frames actions n offset weight)
   pub hessian : h′ ≡ addAll h (upto k (frameHessian order (framesUnder dof frames actions map n offset weight)))
   pub gradient : g′ ≡ addAll g (upto k (frameGradient (framesUnder dof frames actions map n offset weight)))
+
+-- a batch of `size` frames from `from` on, added up to frame `to`: if its pulls are theirs and the frames before `from` were summed, those before `to` now are
+pub record BatchAdded (order dof : ℕ) (frames actions : List Float) (map : List ℕ) (n : List Float) (weight : Float) (cells : List Float) (from size to : ℕ) (s r : Float) (h h′ g g′ : List Float) : Type 0 where
+  pub more : (offset : Float) (h₀ g₀ : List Float) → Pulled frames actions n offset weight from size cells
+      → Summed order dof frames actions map n offset weight from s h₀ h g₀ g → Summed order dof frames actions map n offset weight to r h₀ h′ g₀ g′
 
 -- all frames with the fixed set
 pub record AllAdded (order dof : ℕ) (frames fixed actions : List Float) (map : List ℕ) (n : List Float) (offset weight r : Float) (h h′ g g′ : List Float) : Type 0 where
@@ -65,23 +71,18 @@ pub record AllAdded (order dof : ℕ) (frames fixed actions : List Float) (map :
 -- ---- laws
 
 -- one frame at an offset, and one that goes nowhere
-module _ (x : List Float) (f : Centred) (n : List Float) (offset weight : Float) (order dof : ℕ) (p : Place) (s : Pull)
-    (pulled : s ≡ pullOf f (normalIn x n) (frameAlong x f n offset) weight) where
+module _ (x : List Float) (f : Centred) (n : List Float) (s : Pull) (weight : Float) (order dof : ℕ) (p : Place) where
   pub frame-mapped : (at : ℕ) (h h′ g g′ : List Float) → p ≡ At at → Added order at dof (blockEntry x f n weight) (pulledEntry x f n (s .turn) (s .shift) weight) h h′ g g′
-      → FrameAdded x f n offset weight order dof p (s .cost) h h′ g g′
-  unfolding frameCost vectorEntry
+      → FrameAdded x f n s weight order dof p h h′ g g′
   frame-mapped at h h′ g g′ mapped a = record {
-    cost = ap (λ (q : Pull). q .cost) pulled;
     hessian = hessian-mapped dof p at mapped order (blockEntry x f n weight) h h′ (a .hessian);
-    gradient = gradient-mapped dof p at mapped (vectorEntry x f n offset weight) g g′ (rw pulled at (a .gradient));
+    gradient = gradient-mapped dof p at mapped (pulledEntry x f n (s .turn) (s .shift) weight) g g′ (a .gradient);
   }
 
-  pub frame-unmapped : (h g : List Float) → p ≡ Unmapped → FrameAdded x f n offset weight order dof p (s .cost) h h g g
-  unfolding frameCost
+  pub frame-unmapped : (h g : List Float) → p ≡ Unmapped → FrameAdded x f n s weight order dof p h h g g
   frame-unmapped h g nowhere = record {
-    cost = ap (λ (q : Pull). q .cost) pulled;
     hessian = hessian-unmapped dof p nowhere order (blockEntry x f n weight) h;
-    gradient = gradient-unmapped dof p nowhere (vectorEntry x f n offset weight) g;
+    gradient = gradient-unmapped dof p nowhere (pulledEntry x f n (s .turn) (s .shift) weight) g;
   }
 
 module _ (order dof : ℕ) (frames actions : List Float) (map : List ℕ) where
@@ -89,6 +90,9 @@ module _ (order dof : ℕ) (frames actions : List Float) (map : List ℕ) where
   module _ (cells : ℕ) (ready : Ready cells order dof frames actions map) where
     pub ready-fits : (rows k : ℕ) (p : Place) → rows ≡ order → p ≡ lookup map k → k < frameCount frames → exceeds rows dof p ≡ false
     ready-fits rows k p e at l = rw (e, at) (fits order (λ k. dof) (lookup map) (frameCount frames) (ready .fits) k l)
+
+    pub ready-held : (k : ℕ) → k < frameCount frames → Held frames actions k
+    ready-held k l = record { frame = omega arith; action = omega (arith, ready .acted) }
 
     pub ready-square : (h g : ℕ) → h ≡ cells → g ≡ order → h ≡ g * g
     ready-square h g e q = rw (e, q) (ready .square)
@@ -98,29 +102,28 @@ module _ (order dof : ℕ) (frames actions : List Float) (map : List ℕ) where
     summed-none h g = record { cost = refl; hessian = upto-none h _; gradient = upto-none g _ }
 
     -- one frame more
-    pub summed-more : (k rows : ℕ) (x : List Float) (f : Centred) (p : Place) (s r : Float) (h₀ h h′ g₀ g g′ : List Float) → rows ≡ order
-        → x ≡ actionAt actions k → f ≡ frameAt frames k → p ≡ lookup map k → FrameAdded x f n offset weight rows dof p r h h′ g g′
-        → Summed order dof frames actions map n offset weight k s h₀ h g₀ g → Summed order dof frames actions map n offset weight (k + 1) (s ⊕ r) h₀ h′ g₀ g′
-    unfolding costAt
-    summed-more k rows x f p s r h₀ h h′ g₀ g g′ el ex ef ep a before =
+    pub summed-more : (k rows : ℕ) (p : Place) (s : Pull) (sum : Float) (h₀ h h′ g₀ g g′ : List Float) → rows ≡ order → p ≡ lookup map k → s ≡ pullAt frames actions n offset weight k
+        → FrameAdded (actionAt actions k) (frameAt frames k) n s weight rows dof p h h′ g g′
+        → Summed order dof frames actions map n offset weight k sum h₀ h g₀ g → Summed order dof frames actions map n offset weight (k + 1) (sum ⊕ s .cost) h₀ h′ g₀ g′
+    unfolding costAt frameCost pullAt vectorEntry
+    summed-more k rows p s sum h₀ h h′ g₀ g g′ el ep es a before =
         let all = framesUnder dof frames actions map n offset weight in
         record {
-          cost = rw (add-one k) (ap₂ _⊕_ (before .cost) (rw (ex, ef) at (a .cost)));
-          hessian = hessian-more all k p ep order h₀ h h′ (blockEntry x f n weight) (λ i j li lj. rw (ex, ef)) (before .hessian) (rw el at (a .hessian));
-          gradient = gradient-more all k p ep g₀ g g′ (vectorEntry x f n offset weight) (λ i li. rw (ex, ef)) (before .gradient) (a .gradient);
+          cost = rw (add-one k) (ap₂ _⊕_ (before .cost) (ap (λ (q : Pull). q .cost) es));
+          hessian = hessian-more all k p ep order h₀ h h′ _ (λ i j li lj. refl) (before .hessian) (rw el at (a .hessian));
+          gradient = gradient-more all k p ep g₀ g g′ _ (λ i li. refl) (before .gradient) (rw es at (a .gradient));
         }
 
     -- without a map no frame goes anywhere
     pub summed-unmapped : (k : ℕ) (h g : List Float) → length map ≡ 0 → Summed order dof frames actions map n offset weight k (sumFromZero k (costAt frames actions n offset weight)) h h g g
-    unfolding costAt frameCost
+    unfolding costAt frameCost pullAt
     summed-unmapped zero h g e = summed-none h g
     summed-unmapped (suc k) h g e =
         let before = summed-unmapped k h g e in
-        let x = actionAt actions k in
-        let f = frameAt frames k in
         let nowhere : lookup map k ≡ Unmapped = sym (lookup-past map k (omega arith)) in
-        let frame = frame-unmapped x f n offset weight order dof (lookup map k) (pullOf f (normalIn x n) (frameAlong x f n offset) weight) refl h g nowhere in
-        rw (add-one k) at (summed-more k order x f (lookup map k) _ _ h h h g g g refl refl refl refl frame before)
+        let s = pullAt frames actions n offset weight k in
+        let frame = frame-unmapped (actionAt actions k) (frameAt frames k) n s weight order dof (lookup map k) h g nowhere in
+        rw (add-one k) at (summed-more k order (lookup map k) s _ h h h g g g refl refl refl frame before)
 
     -- all of them, and the fixed set
     pub all-added : (fixed : List Float) (count : ℕ) (s r : Float) (h h′ g g′ : List Float) → count ≡ frameCount frames → r ≡ andFixed fixed (λ f. fixedCost f n offset weight) s
@@ -136,3 +139,26 @@ module _ (order dof : ℕ) (frames actions : List Float) (map : List ℕ) where
         → s ≡ sumFromZero count (costAt frames actions n offset weight) → r ≡ andFixed fixed (λ f. fixedCost f n offset weight) s
         → AllAdded order dof frames fixed actions map n offset weight r h h g g
     all-alone fixed count s r h g e none q p = all-added fixed count s r h h g g e p (rw q (summed-unmapped count h g none))
+
+  -- a batch, frame after frame
+  module _ (n : List Float) (weight : Float) (cells : List Float) (from size : ℕ) where
+    pub batch-none : (s : Float) (h g : List Float) → BatchAdded order dof frames actions map n weight cells from size (from + 0) s s h h g g
+    batch-none s h g = record { more = λ offset h₀ g₀ pulled before. rw add-zero before }
+
+    pub batch-more : (k rows : ℕ) (p : Place) (q : Pull) (s r : Float) (h h′ h″ g g′ g″ : List Float) → k < size → rows ≡ order → p ≡ lookup map (from + k) → q ≡ pullIn cells k
+        → FrameAdded (actionAt actions (from + k)) (frameAt frames (from + k)) n q weight rows dof p h′ h″ g′ g″
+        → BatchAdded order dof frames actions map n weight cells from size (from + k) s r h h′ g g′
+        → BatchAdded order dof frames actions map n weight cells from size (from + (k + 1)) s (r ⊕ q .cost) h h″ g g″
+    batch-more k rows p q s r h h′ h″ g g′ g″ l el ep eq a before = record {
+      more = λ offset h₀ g₀ pulled start.
+          rw add-assoc at (summed-more n offset weight (from + k) rows p q r h₀ h′ h″ g₀ g′ g″ el ep (eq ∙ pulled .pulls k l) a (before .more offset h₀ g₀ pulled start));
+    }
+
+    pub batch-added : (offset : Float) (rows : ℕ) (s r : Float) (h₀ h h′ g₀ g g′ : List Float) → rows ≡ order → Pulled frames actions n offset weight from size cells
+        → BatchAdded rows dof frames actions map n weight cells from size (from + size) s r h h′ g g′ → Summed order dof frames actions map n offset weight from s h₀ h g₀ g
+        → Summed order dof frames actions map n offset weight (from + size) r h₀ h′ g₀ g′
+    batch-added offset rows s r h₀ h h′ g₀ g g′ e pulled added before = (rw e at added) .more offset h₀ g₀ pulled before
+
+-- a batch is within its bounds, and never empty before the end
+pub batch-inside : (count from : ℕ) {size : ℕ} → size ≡ batchSize count from BATCH → from < count → (0 < size) × (size ≤ BATCH) × (from + size ≤ count)
+batch-inside count from e l = rw e (batch-fits count from BATCH l (omega arith))

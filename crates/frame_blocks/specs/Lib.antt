@@ -1,3 +1,4 @@
 pub mod Frame
 pub mod Steps
+pub mod Pulls
 pub mod Frames

@@ -1,17 +1,19 @@
 // A frame's block and vector, worked out of rows of nine numbers and added straight to the Hessian's columns and to the gradient.
 // The loops are small and take the width as it comes: called with a literal width they are unrolled, and the rows stay in registers.
+use derivative::ACTION;
 use derivative::AXIS_X;
 use derivative::AXIS_Y;
 use derivative::AXIS_Z;
 use derivative::ORIGIN;
+use point_moments::scatter::CENTRED;
 use point_moments::scatter::Centred;
 ghost use mathlib.Core.Path.{_≡_};
 ghost use Prim.Native.Nat.{_+_, _*_, _≤_};
 ghost use lib.ListN.{length};
 ghost use Rattle.terms.specs.Terms.{addAll, segment, block};
-ghost use Rattle.derivative.specs.Action.{actionSize};
+ghost use Rattle.plane_fit.specs.Fit.{frameAt, actionAt};
 ghost use Rattle.frame_blocks.specs.Frame.{blockEntry, pulledEntry};
-ghost use Rattle.frame_blocks.specs.Steps.{columnEntry, rowsEntry, rowsVector, Added};
+ghost use Rattle.frame_blocks.specs.Steps.{columnEntry, rowsEntry, rowsVector, Added, Held};
 
 // One column of a block is added to the cells from `base` on.
 fn add_column(
@@ -108,16 +110,19 @@ fn add_three(
     g: &mut [f64],
     n: usize,
     at: usize,
-    x: &[f64],
-    f: Centred,
+    frames: &[f64],
+    actions: &[f64],
+    k: usize,
     normal: [f64; 3],
     s: [f64; 3],
     t: f64,
     weight: f64,
 )
-    requires { ⌜ (at + 3 ≤ n) × (length (now h) ≡ n * n) × (length (now g) ≡ n) × (length (now x) ≡ actionSize) ⌝ }
-    ensures { λ _. ⌜ Added n at 3 (blockEntry (now (x .entry)) f normal weight) (pulledEntry (now (x .entry)) f normal s t weight) (now (h .entry)) (now (h .exit)) (now (g .entry)) (now (g .exit)) ⌝ }
+    requires { ⌜ (at + 3 ≤ n) × (length (now h) ≡ n * n) × (length (now g) ≡ n) × Held (now frames) (now actions) k ⌝ }
+    ensures { λ _. ⌜ Added n at 3 (blockEntry (actionAt (now (actions .entry)) k) (frameAt (now (frames .entry)) k) normal weight) (pulledEntry (actionAt (now (actions .entry)) k) (frameAt (now (frames .entry)) k) normal s t weight) (now (h .entry)) (now (h .exit)) (now (g .entry)) (now (g .exit)) ⌝ }
 {
+    let f = Centred::from_list(plane_fit::whole_at(frames, CENTRED, k));
+    let x = plane_fit::whole_at(actions, ACTION, k);
     let mean = f.mean;
     let c = f.scatter;
     let o = derivative::normal_row(x, ORIGIN, normal, 3);
@@ -138,16 +143,19 @@ fn add_six(
     g: &mut [f64],
     n: usize,
     at: usize,
-    x: &[f64],
-    f: Centred,
+    frames: &[f64],
+    actions: &[f64],
+    k: usize,
     normal: [f64; 3],
     s: [f64; 3],
     t: f64,
     weight: f64,
 )
-    requires { ⌜ (at + 6 ≤ n) × (length (now h) ≡ n * n) × (length (now g) ≡ n) × (length (now x) ≡ actionSize) ⌝ }
-    ensures { λ _. ⌜ Added n at 6 (blockEntry (now (x .entry)) f normal weight) (pulledEntry (now (x .entry)) f normal s t weight) (now (h .entry)) (now (h .exit)) (now (g .entry)) (now (g .exit)) ⌝ }
+    requires { ⌜ (at + 6 ≤ n) × (length (now h) ≡ n * n) × (length (now g) ≡ n) × Held (now frames) (now actions) k ⌝ }
+    ensures { λ _. ⌜ Added n at 6 (blockEntry (actionAt (now (actions .entry)) k) (frameAt (now (frames .entry)) k) normal weight) (pulledEntry (actionAt (now (actions .entry)) k) (frameAt (now (frames .entry)) k) normal s t weight) (now (h .entry)) (now (h .exit)) (now (g .entry)) (now (g .exit)) ⌝ }
 {
+    let f = Centred::from_list(plane_fit::whole_at(frames, CENTRED, k));
+    let x = plane_fit::whole_at(actions, ACTION, k);
     let mean = f.mean;
     let c = f.scatter;
     let o = derivative::normal_row(x, ORIGIN, normal, 6);
@@ -168,16 +176,19 @@ fn add_seven(
     g: &mut [f64],
     n: usize,
     at: usize,
-    x: &[f64],
-    f: Centred,
+    frames: &[f64],
+    actions: &[f64],
+    k: usize,
     normal: [f64; 3],
     s: [f64; 3],
     t: f64,
     weight: f64,
 )
-    requires { ⌜ (at + 7 ≤ n) × (length (now h) ≡ n * n) × (length (now g) ≡ n) × (length (now x) ≡ actionSize) ⌝ }
-    ensures { λ _. ⌜ Added n at 7 (blockEntry (now (x .entry)) f normal weight) (pulledEntry (now (x .entry)) f normal s t weight) (now (h .entry)) (now (h .exit)) (now (g .entry)) (now (g .exit)) ⌝ }
+    requires { ⌜ (at + 7 ≤ n) × (length (now h) ≡ n * n) × (length (now g) ≡ n) × Held (now frames) (now actions) k ⌝ }
+    ensures { λ _. ⌜ Added n at 7 (blockEntry (actionAt (now (actions .entry)) k) (frameAt (now (frames .entry)) k) normal weight) (pulledEntry (actionAt (now (actions .entry)) k) (frameAt (now (frames .entry)) k) normal s t weight) (now (h .entry)) (now (h .exit)) (now (g .entry)) (now (g .exit)) ⌝ }
 {
+    let f = Centred::from_list(plane_fit::whole_at(frames, CENTRED, k));
+    let x = plane_fit::whole_at(actions, ACTION, k);
     let mean = f.mean;
     let c = f.scatter;
     let o = derivative::normal_row(x, ORIGIN, normal, 7);
@@ -198,16 +209,19 @@ fn add_nine(
     g: &mut [f64],
     n: usize,
     at: usize,
-    x: &[f64],
-    f: Centred,
+    frames: &[f64],
+    actions: &[f64],
+    k: usize,
     normal: [f64; 3],
     s: [f64; 3],
     t: f64,
     weight: f64,
 )
-    requires { ⌜ (at + 9 ≤ n) × (length (now h) ≡ n * n) × (length (now g) ≡ n) × (length (now x) ≡ actionSize) ⌝ }
-    ensures { λ _. ⌜ Added n at 9 (blockEntry (now (x .entry)) f normal weight) (pulledEntry (now (x .entry)) f normal s t weight) (now (h .entry)) (now (h .exit)) (now (g .entry)) (now (g .exit)) ⌝ }
+    requires { ⌜ (at + 9 ≤ n) × (length (now h) ≡ n * n) × (length (now g) ≡ n) × Held (now frames) (now actions) k ⌝ }
+    ensures { λ _. ⌜ Added n at 9 (blockEntry (actionAt (now (actions .entry)) k) (frameAt (now (frames .entry)) k) normal weight) (pulledEntry (actionAt (now (actions .entry)) k) (frameAt (now (frames .entry)) k) normal s t weight) (now (h .entry)) (now (h .exit)) (now (g .entry)) (now (g .exit)) ⌝ }
 {
+    let f = Centred::from_list(plane_fit::whole_at(frames, CENTRED, k));
+    let x = plane_fit::whole_at(actions, ACTION, k);
     let mean = f.mean;
     let c = f.scatter;
     let o = derivative::normal_row(x, ORIGIN, normal, 9);
@@ -229,16 +243,19 @@ fn add_other(
     n: usize,
     at: usize,
     width: usize,
-    x: &[f64],
-    f: Centred,
+    frames: &[f64],
+    actions: &[f64],
+    k: usize,
     normal: [f64; 3],
     s: [f64; 3],
     t: f64,
     weight: f64,
 )
-    requires { ⌜ (width ≤ 9) × (at + width ≤ n) × (length (now h) ≡ n * n) × (length (now g) ≡ n) × (length (now x) ≡ actionSize) ⌝ }
-    ensures { λ _. ⌜ Added n at width (blockEntry (now (x .entry)) f normal weight) (pulledEntry (now (x .entry)) f normal s t weight) (now (h .entry)) (now (h .exit)) (now (g .entry)) (now (g .exit)) ⌝ }
+    requires { ⌜ (width ≤ 9) × (at + width ≤ n) × (length (now h) ≡ n * n) × (length (now g) ≡ n) × Held (now frames) (now actions) k ⌝ }
+    ensures { λ _. ⌜ Added n at width (blockEntry (actionAt (now (actions .entry)) k) (frameAt (now (frames .entry)) k) normal weight) (pulledEntry (actionAt (now (actions .entry)) k) (frameAt (now (frames .entry)) k) normal s t weight) (now (h .entry)) (now (h .exit)) (now (g .entry)) (now (g .exit)) ⌝ }
 {
+    let f = Centred::from_list(plane_fit::whole_at(frames, CENTRED, k));
+    let x = plane_fit::whole_at(actions, ACTION, k);
     let mean = f.mean;
     let c = f.scatter;
     let o = derivative::normal_row(x, ORIGIN, normal, width);
@@ -260,31 +277,32 @@ pub fn add_at(
     n: usize,
     at: usize,
     width: usize,
-    x: &[f64],
-    f: Centred,
+    frames: &[f64],
+    actions: &[f64],
+    k: usize,
     normal: [f64; 3],
     s: [f64; 3],
     t: f64,
     weight: f64,
 )
-    requires { ⌜ (width ≤ 9) × (at + width ≤ n) × (length (now h) ≡ n * n) × (length (now g) ≡ n) × (length (now x) ≡ actionSize) ⌝ }
-    ensures { λ _. ⌜ Added n at width (blockEntry (now (x .entry)) f normal weight) (pulledEntry (now (x .entry)) f normal s t weight) (now (h .entry)) (now (h .exit)) (now (g .entry)) (now (g .exit)) ⌝ }
+    requires { ⌜ (width ≤ 9) × (at + width ≤ n) × (length (now h) ≡ n * n) × (length (now g) ≡ n) × Held (now frames) (now actions) k ⌝ }
+    ensures { λ _. ⌜ Added n at width (blockEntry (actionAt (now (actions .entry)) k) (frameAt (now (frames .entry)) k) normal weight) (pulledEntry (actionAt (now (actions .entry)) k) (frameAt (now (frames .entry)) k) normal s t weight) (now (h .entry)) (now (h .exit)) (now (g .entry)) (now (g .exit)) ⌝ }
 {
     if width == 3 {
-        add_three(h, g, n, at, x, f, normal, s, t, weight);
+        add_three(h, g, n, at, frames, actions, k, normal, s, t, weight);
         return;
     }
     if width == 6 {
-        add_six(h, g, n, at, x, f, normal, s, t, weight);
+        add_six(h, g, n, at, frames, actions, k, normal, s, t, weight);
         return;
     }
     if width == 7 {
-        add_seven(h, g, n, at, x, f, normal, s, t, weight);
+        add_seven(h, g, n, at, frames, actions, k, normal, s, t, weight);
         return;
     }
     if width == 9 {
-        add_nine(h, g, n, at, x, f, normal, s, t, weight);
+        add_nine(h, g, n, at, frames, actions, k, normal, s, t, weight);
         return;
     }
-    add_other(h, g, n, at, width, x, f, normal, s, t, weight);
+    add_other(h, g, n, at, width, frames, actions, k, normal, s, t, weight);
 }

@@ -2,48 +2,156 @@
 pub mod block;
 
 use derivative::ACTION;
+use frame_cost::Pull;
 use normal_blocks::Place;
 use point_moments::scatter::CENTRED;
 use point_moments::scatter::Centred;
 ghost use mathlib.Core.Path.{_≡_};
 ghost use mathlib.Core.Bool.{false};
 ghost use mathlib.Core.Logic.{_⊎_};
-ghost use Prim.Native.Nat.{_*_, _≤_};
+ghost use Prim.Native.Nat.{_+_, _*_, _≤_, _<_};
 ghost use lib.ListN.{length};
 ghost use Rattle.derivative.specs.Action.{actionSize};
 ghost use Rattle.point_moments.specs.Scatter.{CENTRED};
 ghost use Rattle.normal_blocks.specs.Map.{exceeds};
-ghost use Rattle.plane_fit.specs.Fit.{frameCount};
-ghost use Rattle.frame_blocks.specs.Frames.{Ready, FrameAdded, Summed, AllAdded};
+ghost use Rattle.plane_fit.specs.Fit.{frameCount, frameAt, actionAt};
+ghost use Rattle.frame_blocks.specs.Steps.{Held};
+ghost use Rattle.frame_blocks.specs.Pulls.{BATCH, PULLS, pullIn, withPull, Pulled};
+ghost use Rattle.frame_blocks.specs.Frames.{Ready, FrameAdded, Summed, BatchAdded, AllAdded};
 
-// One frame: its block and vector are added if it has a place, and its cost is the answer.
+// One frame: its block and vector are added if it has a place.
 fn add_frame(
     h: &mut [f64],
     g: &mut [f64],
     p: Place,
     dof: usize,
-    x: &[f64],
-    f: Centred,
+    frames: &[f64],
+    actions: &[f64],
+    k: usize,
     normal: [f64; 3],
-    offset: f64,
+    pull: Pull,
     weight: f64,
-) -> f64
-    requires { ⌜ (dof ≤ 9) × (exceeds (length (now g)) dof p ≡ false) × (length (now h) ≡ length (now g) * length (now g)) × (length (now x) ≡ actionSize) ⌝ }
-    ensures { λ r. ⌜ FrameAdded (now (x .entry)) f normal offset weight (length (now (g .entry))) dof p r (now (h .entry)) (now (h .exit)) (now (g .entry)) (now (g .exit)) ⌝ }
+)
+    requires { ⌜ (dof ≤ 9) × (exceeds (length (now g)) dof p ≡ false) × (length (now h) ≡ length (now g) * length (now g)) × Held (now frames) (now actions) k ⌝ }
+    ensures { λ _. ⌜ FrameAdded (actionAt (now (actions .entry)) k) (frameAt (now (frames .entry)) k) normal pull weight (length (now (g .entry))) dof p (now (h .entry)) (now (h .exit)) (now (g .entry)) (now (g .exit)) ⌝ }
 {
-    let s = frame_cost::frame_pull(x, f, normal, offset, weight);
-    let turn = s.turn;
     let n = g.len();
+    let turn = pull.turn;
     match p {
         Place::At(at) => {
-            block::add_at(h, g, n, at, dof, x, f, normal, turn, s.shift, weight);
+            block::add_at(
+                h,
+                g,
+                n,
+                at,
+                dof,
+                frames,
+                actions,
+                k,
+                normal,
+                turn,
+                pull.shift,
+                weight,
+            );
         }
         Place::Unmapped => {}
     }
-    s.cost
 }
 
-// Frame after frame.
+// How many frames' pulls are worked out before their blocks are added.
+const BATCH: usize = 4;
+
+// Puts a pull into the pulls of a batch as that of its k-th frame.
+fn put_pull(pulls: &mut [f64; 20], k: usize, p: Pull)
+    requires { ⌜ (k < BATCH) × (length (now pulls) ≡ PULLS) ⌝ }
+    ensures { λ _. ⌜ now (pulls .exit) ≡ withPull (now (pulls .entry)) k p ⌝ }
+{
+    let t = p.turn;
+    pulls[k] = t[0];
+    pulls[BATCH + k] = t[1];
+    pulls[2 * BATCH + k] = t[2];
+    pulls[3 * BATCH + k] = p.shift;
+    pulls[4 * BATCH + k] = p.cost;
+}
+
+// The pull of the k-th frame of a batch.
+fn pull_at(pulls: &[f64; 20], k: usize) -> Pull
+    requires { ⌜ k < BATCH ⌝ }
+    ensures { λ r. ⌜ r ≡ pullIn (now (pulls .entry)) k ⌝ }
+{
+    let turn = [pulls[k], pulls[BATCH + k], pulls[2 * BATCH + k]];
+    Pull {
+        turn,
+        shift: pulls[3 * BATCH + k],
+        cost: pulls[4 * BATCH + k],
+    }
+}
+
+// The pulls at the frames of a batch from frame `from` on, number after number: number e of the batch's k-th frame stands at e * BATCH + k, so
+// that the loop's stores are neighbours and the compiler works out two frames at a time.
+fn fill_pulls(
+    frames: &[f64],
+    actions: &[f64],
+    from: usize,
+    size: usize,
+    normal: [f64; 3],
+    offset: f64,
+    weight: f64,
+    pulls: &mut [f64; 20],
+)
+    requires { ⌜ (size ≤ BATCH) × (length (now pulls) ≡ PULLS) × (CENTRED * (from + size) ≤ length (now frames)) × (actionSize * (from + size) ≤ length (now actions)) ⌝ }
+    ensures { λ _. ⌜ Pulled (now (frames .entry)) (now (actions .entry)) normal offset weight from size (now (pulls .exit)) ⌝ }
+{
+    for k in 0..size {
+        let f = Centred::from_list(plane_fit::whole_at(frames, CENTRED, from + k));
+        let x = plane_fit::whole_at(actions, ACTION, from + k);
+        put_pull(
+            pulls,
+            k,
+            frame_cost::frame_pull(x, f, normal, offset, weight),
+        );
+    }
+}
+
+// The frames of a batch, one after the other: the sum with their costs is the answer.
+fn add_batch(
+    h: &mut [f64],
+    g: &mut [f64],
+    dof: usize,
+    frames: &[f64],
+    actions: &[f64],
+    map: &[u32],
+    from: usize,
+    size: usize,
+    normal: [f64; 3],
+    weight: f64,
+    pulls: &[f64; 20],
+    sum: f64,
+) -> f64
+    requires { ⌜ (size ≤ BATCH) × (from + size ≤ frameCount (now frames)) × Ready (length (now h)) (length (now g)) dof (now frames) (now actions) (now map) ⌝ }
+    ensures { λ r. ⌜ BatchAdded (length (now (g .entry))) dof (now (frames .entry)) (now (actions .entry)) (now (map .entry)) normal weight (now (pulls .entry)) from size (from + size) sum r (now (h .entry)) (now (h .exit)) (now (g .entry)) (now (g .exit)) ⌝ }
+{
+    let mut s = sum;
+    for k in 0..size {
+        let p = pull_at(pulls, k);
+        add_frame(
+            h,
+            g,
+            normal_blocks::lookup(map, from + k),
+            dof,
+            frames,
+            actions,
+            from + k,
+            normal,
+            p,
+            weight,
+        );
+        s = s + p.cost;
+    }
+    s
+}
+
+// Batch after batch.
 fn add_frames(
     h: &mut [f64],
     g: &mut [f64],
@@ -60,21 +168,35 @@ fn add_frames(
     ensures { λ r. ⌜ Summed (length (now (g .entry))) dof (now (frames .entry)) (now (actions .entry)) (now (map .entry)) normal offset weight count r (now (h .entry)) (now (h .exit)) (now (g .entry)) (now (g .exit)) ⌝ }
 {
     let mut sum = 0.0;
-    for k in 0..count {
-        let f = Centred::from_list(plane_fit::frame(frames, k));
-        let p = normal_blocks::lookup(map, k);
-        sum = sum
-            + add_frame(
-                h,
-                g,
-                p,
-                dof,
-                plane_fit::record_at(actions, ACTION, k),
-                f,
-                normal,
-                offset,
-                weight,
-            );
+    let mut pulls = [0.0; 20];
+    let mut from = 0;
+    while from < count {
+        let size = plane_fit::batch_size(count, from, BATCH);
+        fill_pulls(
+            frames,
+            actions,
+            from,
+            size,
+            normal,
+            offset,
+            weight,
+            &mut pulls,
+        );
+        sum = add_batch(
+            h,
+            g,
+            dof,
+            frames,
+            actions,
+            map,
+            from,
+            size,
+            normal,
+            weight,
+            &pulls,
+            sum,
+        );
+        from = from + size;
     }
     sum
 }

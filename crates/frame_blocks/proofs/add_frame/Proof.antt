@@ -1,4 +1,4 @@
--- `frame_blocks::add_frame` meets its contract: block and vector at the frame's offset, nothing where it has none, and its cost. Assumes nothing.
+-- `frame_blocks::add_frame` meets its contract: block and vector at the frame's offset, nothing where it has none. Assumes nothing.
 use mathlib.Core.Path.{refl}
 use borrow.Author.Needs.{needs}
 use Rattle.normal_blocks.specs.Laws.{fits-at}
@@ -15,20 +15,15 @@ add-at-requires c κs =
 returns : tie.Need-returns
 returns c =
     let added = c .before .before .before .before in
-    let placed = added .before .before .before .before in
-    let pulled = placed .before .before .before in
-    frame-mapped _ _ _ _ _ _ _ _ _ (pulled .frame-pull .ensures) _ _ _ _ _ (placed .p .given .1) (added .add-at .ensures)
+    frame-mapped _ _ _ _ _ _ _ _ _ _ _ _ _ (added .before .before .before .before .p .given .1) (added .add-at .ensures)
 
 returns-2 : tie.Need-returns-2
-returns-2 c =
-    let pulled = c .before .before .before in
-    frame-unmapped _ _ _ _ _ _ _ _ _ (pulled .frame-pull .ensures) _ _ (c .enum-told .given .1)
+returns-2 c = frame-unmapped _ _ _ _ _ _ _ _ _ _ (c .enum-told .given .1)
 
 pub add-frame-spec : {M : Type 1} → statement M
 add-frame-spec =
     tie.close
     (tie.spec
-    (λ c κs. search needs)
     (λ c. search needs)
     add-at-requires
     (λ c. search needs)
