@@ -213,7 +213,7 @@ fn measure_linearize<const WIDTH: usize>(planes: &[Plane]) {
     let frames = planes[0].frames.len();
     let rows = 4 * frames + 4;
     let none = || (vec![0.0; rows], vec![0.0; rows * frames * WIDTH]);
-    let [mut by_library, mut by_rust, mut by_root] = [none(), none(), none()];
+    let [mut by_library, mut by_rust, mut by_slices] = [none(), none(), none()];
     let library = |(residual, jacobian): &mut (Vec<f64>, Vec<f64>)| {
         for plane in black_box(planes) {
             _ = slices::frames_linearize(
@@ -228,7 +228,7 @@ fn measure_linearize<const WIDTH: usize>(planes: &[Plane]) {
             );
         }
     };
-    let rust = |root: fn(f64) -> f64, (residual, jacobian): &mut (Vec<f64>, Vec<f64>)| {
+    let rust = |(residual, jacobian): &mut (Vec<f64>, Vec<f64>)| {
         for plane in black_box(planes) {
             plain::linearize::<WIDTH>(
                 &plane.frames,
@@ -236,31 +236,43 @@ fn measure_linearize<const WIDTH: usize>(planes: &[Plane]) {
                 SIGMA,
                 &plane.actions,
                 &plane.decompositions,
-                root,
+                residual,
+                jacobian,
+            );
+        }
+    };
+    let of_slices = |(residual, jacobian): &mut (Vec<f64>, Vec<f64>)| {
+        for plane in black_box(planes) {
+            _ = plain::linearize_slices::<WIDTH>(
+                plane.frames.as_flattened(),
+                &plane.fixed,
+                SIGMA,
+                plane.actions.as_flattened(),
+                plane.decompositions.as_flattened(),
                 residual,
                 jacobian,
             );
         }
     };
     library(&mut by_library);
-    rust(f64::sqrt, &mut by_rust);
-    rust(maghnelt::sqrt, &mut by_root);
+    rust(&mut by_rust);
+    of_slices(&mut by_slices);
     assert_eq!(by_library, by_rust);
-    assert_eq!(by_library, by_root);
+    assert_eq!(by_library, by_slices);
     let case = format!("{}, dof {WIDTH}", of(planes));
     measure(
         "frames_linearize",
         &case,
         planes.len(),
         || library(&mut by_library),
-        || rust(f64::sqrt, &mut by_rust),
+        || rust(&mut by_rust),
     );
     measure(
         "frames_linearize",
-        &format!("{case}, Rust with the library's root"),
+        &format!("{case}, Rust with the same root and tests"),
         planes.len(),
         || library(&mut by_library),
-        || rust(maghnelt::sqrt, &mut by_root),
+        || of_slices(&mut by_slices),
     );
 }
 
@@ -523,9 +535,80 @@ mod plain {
         })
     }
 
-    #[allow(clippy::too_many_arguments)]
     #[inline(never)]
     pub fn linearize<const WIDTH: usize>(
+        frames: &[Frame],
+        fixed: Option<&Frame>,
+        sigma: f64,
+        actions: &[Action],
+        decompositions: &[Decomposition],
+        residual: &mut [f64],
+        jacobian: &mut [f64],
+    ) {
+        linearized::<WIDTH>(
+            frames,
+            fixed,
+            sigma,
+            actions,
+            decompositions,
+            f64::sqrt,
+            residual,
+            jacobian,
+        );
+    }
+
+    /// The same of slices with the library's tests of them and its root, which document 01 has worked out in integers: the number
+    /// of the reason to refuse, or 0.
+    #[inline(never)]
+    pub fn linearize_slices<const WIDTH: usize>(
+        frames: &[f64],
+        fixed: &[f64],
+        sigma: f64,
+        actions: &[f64],
+        decompositions: &[f64],
+        residual: &mut [f64],
+        jacobian: &mut [f64],
+    ) -> u32 {
+        if frames.is_empty() {
+            return 2;
+        }
+        let (frames, rest) = frames.as_chunks::<CENTRED>();
+        let (fixed, short) = fixed.as_chunks::<CENTRED>();
+        let (decompositions, left) = decompositions.as_chunks::<DECOMPOSITION>();
+        let whole = rest.is_empty() && short.is_empty() && left.is_empty();
+        if !whole || frames.len() > MAX_FRAMES || fixed.len() > 1 {
+            return 3;
+        }
+        let rows = 4 * frames.len() + 4;
+        if decompositions.len() != 1 + frames.len() + fixed.len() || residual.len() != rows {
+            return 3;
+        }
+        if jacobian.len() != rows * frames.len() * WIDTH {
+            return 3;
+        }
+        if !(sigma.is_finite() && sigma > 0.0) {
+            return 7;
+        }
+        let (actions, rest) = actions.as_chunks::<ACTION>();
+        if !rest.is_empty() || actions.len() != frames.len() {
+            return 8;
+        }
+        linearized::<WIDTH>(
+            frames,
+            fixed.first(),
+            sigma,
+            actions,
+            decompositions,
+            maghnelt::sqrt,
+            residual,
+            jacobian,
+        );
+        0
+    }
+
+    #[allow(clippy::too_many_arguments)]
+    #[inline(always)]
+    fn linearized<const WIDTH: usize>(
         frames: &[Frame],
         fixed: Option<&Frame>,
         sigma: f64,

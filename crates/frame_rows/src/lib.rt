@@ -137,30 +137,6 @@ fn put_columns(
     }
 }
 
-// The same, with a copy of the code for the widths that are common.
-fn put_block(
-    out: &mut [f64],
-    from: usize,
-    stride: usize,
-    width: usize,
-    x: &[f64],
-    n: [f64; 3],
-    mean: [f64; 3],
-    root: Root,
-    info: f64,
-)
-    requires { ⌜ (width ≤ 9) × (length (now x) ≡ actionSize) × ((c : ℕ) → c < width → from + c * stride + 4 ≤ length (now out)) ⌝ }
-    ensures { λ _. ⌜ now (out .exit) ≡ putColumns (now (out .entry)) from stride (λ c k. columnOf (now (x .entry)) n mean root info c ! k) width ⌝ }
-{
-    match width {
-        3 => put_columns(out, from, stride, 3, x, n, mean, root, info),
-        6 => put_columns(out, from, stride, 6, x, n, mean, root, info),
-        7 => put_columns(out, from, stride, 7, x, n, mean, root, info),
-        9 => put_columns(out, from, stride, 9, x, n, mean, root, info),
-        _ => put_columns(out, from, stride, width, x, n, mean, root, info),
-    }
-}
-
 // Frame k's four residuals, and the first `width` columns of its block.
 fn write_frame(
     frames: &[f64],
@@ -178,8 +154,8 @@ fn write_frame(
     ensures { λ _. ⌜ FrameWritten (now (frames .entry)) (now (actions .entry)) (now (ds .entry)) k n offset info width (now (residual .entry)) (now (jacobian .entry)) (now (residual .exit)) (now (jacobian .exit)) ⌝ }
 {
     let rows = residual.len();
-    let f = Centred::from_list(plane_fit::frame(frames, k));
-    let x = plane_fit::record_at(actions, ACTION, k);
+    let f = Centred::from_list(plane_fit::whole_at(frames, CENTRED, k));
+    let x = plane_fit::whole_at(actions, ACTION, k);
     let root = Root::of(decomposition_at(ds, k + 1), f.count);
     let mean = f.mean;
     let along = frame_normal::along(n, offset, action::carried(x, mean));
@@ -188,7 +164,7 @@ fn write_frame(
         k * 4,
         root.rows(frame_normal::normal_in(x, n), along, info),
     );
-    put_block(
+    put_columns(
         jacobian,
         k * width * rows + k * 4,
         rows,

@@ -10,11 +10,19 @@ use Rattle.frame_rows.specs.Frames.{frame-four, block-four, decompositio
 use Rattle.frame_rows.proofs.write_frame.Statement.{statement}
 use Rattle.frame_rows.proofs.write_frame.Tie as tie
 
+whole-at-requires : tie.Need-whole-at-requires
+whole-at-requires c κs =
+    let s = c .before .before .before .before .before in
+    whole 13 (s .args .frames .now) (s .args .k) (omega arith) (s .pre .0)
+
+whole-at-requires-2 : tie.Need-whole-at-requires-2
+whole-at-requires-2 c κs = omega (arith, c .before .before .before .before .before .before .before .pre)
+
 from-list-requires : tie.Need-from-list-requires
 from-list-requires c κs =
     let s = c .before .before .before .before .before .before in
     let frames = s .args .frames .now in
-    rw (c .frame .ensures) (record-length 13 frames (s .args .k) (whole 13 frames (s .args .k) (omega arith) (s .pre .0)))
+    rw (c .whole-at .ensures) (record-length 13 frames (s .args .k) (whole 13 frames (s .args .k) (omega arith) (s .pre .0)))
 
 of-requires : tie.Need-of-requires
 of-requires c κs =
@@ -25,7 +33,7 @@ carried-requires : tie.Need-carried-requires
 carried-requires c κs =
     let r = c .before .before .before in
     let s = r .before .before .before .before .before .before .before .before in
-    rw (r .record-at .ensures) (record-length 120 (s .args .actions .now) (s .args .k) (omega (arith, s .pre .0, s .pre .1 .actions-whole)))
+    rw (r .whole-at2 .ensures) (record-length 120 (s .args .actions .now) (s .args .k) (omega (arith, s .pre .0, s .pre .1 .actions-whole)))
 
 normal-in-requires : tie.Need-normal-in-requires
 normal-in-requires c κs = carried-requires (c .before .before .before) κs
@@ -35,32 +43,32 @@ put-four-requires c κs =
     let s = c .before .before .before .before .before .before .before .before .before .before .before .before .before .before .before .before in
     omega (arith, s .pre .0, s .pre .1 .residual-whole)
 
-mul-put-block : tie.Need-mul-put-block
-mul-put-block c =
+mul-put-columns : tie.Need-mul-put-columns
+mul-put-columns c =
     let s = c .before .before .before .before .before .before .before .before .before .before .before .before .before .before .before .before .before .before .before .before in
     let a = s .args in
     omega (arith, room-starts (a .frames .now) (a .actions .now) (a .ds .now) (length (a .residual .now)) (length (a .jacobian .now)) (a .width) (s .pre .1) (a .k) (s .pre .0), room-narrow (a .frames .now) (a .actions .now) (a .ds .now) (length (a .residual .now)) (length (a .jacobian .now)) (a .width) (s .pre .1) (a .k) (s .pre .0))
 
-mul-put-block-2 : tie.Need-mul-put-block-2
-mul-put-block-2 c =
+mul-put-columns-2 : tie.Need-mul-put-columns-2
+mul-put-columns-2 c =
     let s = c .before .before .before .before .before .before .before .before .before .before .before .before .before .before .before .before .before .before .before .before in
     let a = s .args in
     omega (arith, room-starts (a .frames .now) (a .actions .now) (a .ds .now) (length (a .residual .now)) (length (a .jacobian .now)) (a .width) (s .pre .1) (a .k) (s .pre .0))
 
-mul-put-block-3 : tie.Need-mul-put-block-3
-mul-put-block-3 c =
+mul-put-columns-3 : tie.Need-mul-put-columns-3
+mul-put-columns-3 c =
     let s = c .before .before .before .before .before .before .before .before .before .before .before .before .before .before .before .before .before .before .before .before in
     let a = s .args in
     omega (arith, s .pre .0, s .pre .1 .residual-whole)
 
-add-put-block : tie.Need-add-put-block
-add-put-block c =
+add-put-columns : tie.Need-add-put-columns
+add-put-columns c =
     let s = c .before .before .before .before .before .before .before .before .before .before .before .before .before .before .before .before .before .before .before .before in
     let a = s .args in
     omega (arith, room-starts (a .frames .now) (a .actions .now) (a .ds .now) (length (a .residual .now)) (length (a .jacobian .now)) (a .width) (s .pre .1) (a .k) (s .pre .0), s .pre .0, s .pre .1 .residual-whole)
 
-put-block-requires : tie.Need-put-block-requires
-put-block-requires c κs =
+put-columns-requires : tie.Need-put-columns-requires
+put-columns-requires c κs =
     let w = c .before .before .before .before .before .before .before .before in
     let m = w .before in
     let s = m .before .before .before .before .before .before .before .before .before .before .before in
@@ -81,19 +89,19 @@ returns c =
     let f = x .before in
     let g = f .before in
     let a = g .before .before .before .before .before .before .args in
-    let set = f .from-list .ensures ∙ ap centredOf (g .frame .ensures) in
+    let set = f .from-list .ensures ∙ ap centredOf (g .whole-at .ensures) in
     record {
-      residual-is = p .put-four .ensures ∙ frame-four (a .frames .now) (a .actions .now) (a .ds .now) (a .n) (a .info) (a .k) (f .from-list .result) _ _ (o .of .result) set (x .record-at .ensures) (d .decomposition-at .ensures) (o .of .ensures) (a .offset) _ _ (l .along .result) _ _ _ (i .normal-in .ensures) (w .carried .ensures) (l .along .ensures) (r .rows .ensures);
-      jacobian-is = u .put-block .ensures ∙ block-four (a .frames .now) (a .actions .now) (a .ds .now) (a .n) (a .info) (a .k) (f .from-list .result) _ _ (o .of .result) set (x .record-at .ensures) (d .decomposition-at .ensures) (o .of .ensures) _ _ _ _;
+      residual-is = p .put-four .ensures ∙ frame-four (a .frames .now) (a .actions .now) (a .ds .now) (a .n) (a .info) (a .k) (f .from-list .result) _ _ (o .of .result) set (x .whole-at2 .ensures) (d .decomposition-at .ensures) (o .of .ensures) (a .offset) _ _ (l .along .result) _ _ _ (i .normal-in .ensures) (w .carried .ensures) (l .along .ensures) (r .rows .ensures);
+      jacobian-is = u .put-columns .ensures ∙ block-four (a .frames .now) (a .actions .now) (a .ds .now) (a .n) (a .info) (a .k) (f .from-list .result) _ _ (o .of .result) set (x .whole-at2 .ensures) (d .decomposition-at .ensures) (o .of .ensures) _ _ _ _;
     }
 
 pub write-frame-spec : {M : Type 1} → statement M
 write-frame-spec =
     tie.close
     (tie.spec
-    (λ c κs. tt)
+    whole-at-requires
     from-list-requires
-    (λ c κs. omega arith)
+    whole-at-requires-2
     (λ c. search needs)
     (λ c κs. search needs)
     of-requires
@@ -103,11 +111,11 @@ write-frame-spec =
     normal-in-requires
     (λ c κs. tt)
     put-four-requires
-    mul-put-block
-    mul-put-block-2
-    mul-put-block-3
-    add-put-block
-    put-block-requires
+    mul-put-columns
+    mul-put-columns-2
+    mul-put-columns-3
+    add-put-columns
+    put-columns-requires
     (λ c. search needs)
     (λ c. search needs)
     returns)
