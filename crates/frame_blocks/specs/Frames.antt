@@ -22,7 +22,6 @@ use Rattle.call_lists.specs.FrameLaws.{hessian-more, gradient-more}
 use Rattle.derivative.specs.Action.{actionSize}
 use Rattle.point_moments.specs.declared.scatter.Centred.{Centred}
 use Rattle.plane_fit.specs.Fit.{frameCount, frameAt, actionAt, andFixed}
-use Rattle.plane_fit.specs.Batch.{batchSize, batch-fits}
 use Rattle.frame_blocks.specs.Frame.{blockEntry, pulledEntry, vectorEntry}
 use Rattle.frame_blocks.specs.Steps.{Added, Held}
 use Rattle.frame_blocks.specs.Pulls.{BATCH, pullAt, pullIn, Pulled}
@@ -158,7 +157,3 @@ module _ (order dof : ℕ) (frames actions : List Float) (map : List ℕ) where
         → BatchAdded rows dof frames actions map n weight cells from size (from + size) s r h h′ g g′ → Summed order dof frames actions map n offset weight from s h₀ h g₀ g
         → Summed order dof frames actions map n offset weight (from + size) r h₀ h′ g₀ g′
     batch-added offset rows s r h₀ h h′ g₀ g g′ e pulled added before = (rw e at added) .more offset h₀ g₀ pulled before
-
--- a batch is within its bounds, and never empty before the end
-pub batch-inside : (count from : ℕ) {size : ℕ} → size ≡ batchSize count from BATCH → from < count → (0 < size) × (size ≤ BATCH) × (from + size ≤ count)
-batch-inside count from e l = rw e (batch-fits count from BATCH l (omega arith))

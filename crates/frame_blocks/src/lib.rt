@@ -171,7 +171,7 @@ fn add_frames(
     let mut pulls = [0.0; 20];
     let mut from = 0;
     while from < count {
-        let size = plane_fit::batch_size(count, from, BATCH);
+        let size = lists::batch_size(count, from, BATCH);
         fill_pulls(
             frames,
             actions,

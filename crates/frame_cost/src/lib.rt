@@ -103,7 +103,7 @@ pub fn frames_cost(
     let mut costs = [0.0; 8];
     let mut from = 0;
     while from < count {
-        let size = plane_fit::batch_size(count, from, BATCH);
+        let size = lists::batch_size(count, from, BATCH);
         fill_costs(
             frames,
             actions,

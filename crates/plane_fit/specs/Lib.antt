@@ -1,5 +1,4 @@
 pub mod Records
-pub mod Batch
 pub mod Fit
 pub mod Steps
 pub mod Parts

@@ -11,7 +11,6 @@ ghost use Rattle.sums.specs.Sum.{plus, grid, product, transpose};
 ghost use Rattle.derivative.specs.Action.{actionSize};
 ghost use Rattle.point_moments.specs.Scatter.{CENTRED};
 ghost use Rattle.plane_fit.specs.Records.{recordOf};
-ghost use Rattle.plane_fit.specs.Batch.{batchSize};
 ghost use Rattle.plane_fit.specs.Parts.{BATCH, partOf, Put, Held, withParts};
 ghost use Rattle.plane_fit.specs.Fit.{Shaped, centre, turned, spread, fitMean, scatterAbout, fitList};
 ghost use Rattle.plane_fit.specs.Calls.{badRecords, badFrames, badFixed, badCount, badActions, fitRefusal};
@@ -46,15 +45,6 @@ pub fn whole_at(list: &[f64], size: usize, k: usize) -> &[f64]
     let at = size * k;
     let end = at + size;
     &list[at..end]
-}
-
-// How many of `count` frames are in a batch of at most `most` that starts at frame `from`.
-pub fn batch_size(count: usize, from: usize, most: usize) -> usize
-    requires { ⌜ from ≤ count ⌝ }
-    ensures { λ r. ⌜ r ≡ batchSize count from most ⌝ }
-{
-    let left = count - from;
-    if left < most { left } else { most }
 }
 
 // The numbers of frame k.
@@ -235,7 +225,7 @@ fn scatter_of(frames: &[f64], actions: &[f64], count: usize, mean: [f64; 3]) -> 
     let mut parts = [0.0; 72];
     let mut from = 0;
     while from < count {
-        let size = batch_size(count, from, BATCH);
+        let size = lists::batch_size(count, from, BATCH);
         fill_parts(frames, actions, from, size, mean, &mut parts);
         s = with_parts(s, &parts, size);
         from = from + size;

@@ -4,8 +4,9 @@ use mathlib.Core.Path.{_≡_, refl, _∙_}
 use native.Mathlib.Omega.{arith}
 use borrow.Author.Needs.{needs}
 use lib.ListN.{length}
+use Rattle.lists.specs.Batch.{batch-fits}
 use Rattle.frame_blocks.specs.Pulls.{PULLS}
-use Rattle.frame_blocks.specs.Frames.{Summed, summed-none, batch-added, batch-inside}
+use Rattle.frame_blocks.specs.Frames.{Summed, summed-none, batch-added}
 use Rattle.frame_blocks.proofs.add_frames.Statement.{statement}
 use Rattle.frame_blocks.proofs.add_frames.Tie as tie
 
@@ -25,7 +26,7 @@ fill-pulls-requires c κs =
     let inside = sized .before in
     let l = inside .before .loop in
     let ready = inside .before .before .before .before .before .before .before .pre .1 in
-    let fits = batch-inside _ _ (sized .batch-size .ensures) (inside .loop-test .taken) in
+    let fits = batch-fits (sized .batch-size .ensures) (inside .loop-test .taken) (omega arith) in
     (fits .1, l .inv .3, omega arith, omega (arith, ready .acted))
 
 add-batch-requires : tie.Need-add-batch-requires Inv-loop μ-loop
@@ -34,21 +35,21 @@ add-batch-requires c κs =
     let inside = sized .before in
     let l = inside .before .loop in
     let start = inside .before .before .before .before .before .before .before in
-    let fits = batch-inside _ _ (sized .batch-size .ensures) (inside .loop-test .taken) in
+    let fits = batch-fits (sized .batch-size .ensures) (inside .loop-test .taken) (omega arith) in
     (fits .1, omega arith, rw (l .inv .1, l .inv .2) (start .pre .1))
 
 add-from : tie.Need-add-from Inv-loop μ-loop
 add-from c =
     let sized = c .before .before .before .before .before .before .before .before .before .before in
     let inside = sized .before in
-    let fits = batch-inside _ _ (sized .batch-size .ensures) (inside .loop-test .taken) in
+    let fits = batch-fits (sized .batch-size .ensures) (inside .loop-test .taken) (omega arith) in
     omega arith
 
 loop-less : tie.Need-loop-less Inv-loop μ-loop
 loop-less c =
     let sized = c .before .before .before .before .before .before .before .before .before .before in
     let inside = sized .before in
-    let fits = batch-inside _ _ (sized .batch-size .ensures) (inside .loop-test .taken) in
+    let fits = batch-fits (sized .batch-size .ensures) (inside .loop-test .taken) (omega arith) in
     omega arith
 
 loop-again : tie.Need-loop-again Inv-loop μ-loop
@@ -58,7 +59,7 @@ loop-again c =
     let sized = filled .before .before in
     let inside = sized .before in
     let l = inside .before .loop in
-    let fits = batch-inside _ _ (sized .batch-size .ensures) (inside .loop-test .taken) in (
+    let fits = batch-fits (sized .batch-size .ensures) (inside .loop-test .taken) (omega arith) in (
       fits .2,
       added .add-batch .kept .0 ∙ l .inv .1,
       added .add-batch .kept .1 .0 ∙ l .inv .2,

@@ -6,7 +6,7 @@ use lib.ListN.{length}
 use borrow.Author.Needs.{needs}
 use Rattle.sums.specs.Sum.{zeroF, sumFrom, sumFromZero}
 use Rattle.sums.specs.Laws.{sumFrom-same, sumFrom-parts}
-use Rattle.plane_fit.specs.Batch.{batchSize, batch-fits}
+use Rattle.lists.specs.Batch.{batch-fits}
 use Rattle.frame_cost.specs.Cost.{costAt}
 use Rattle.frame_cost.proofs.frames_cost.Statement.{statement}
 use Rattle.frame_cost.proofs.frames_cost.Tie as tie
@@ -18,30 +18,26 @@ Inv-loop frames actions normal offset weight count sum₀ costs₀ from₀ sum c
 abbrev μ-loop : tie.MeasureT-loop
 μ-loop frames actions normal offset weight count sum₀ costs₀ from₀ sum costs from = count - from
 
--- a batch of the frames from `from` on is not empty, fits the array, and ends within the frames
-batch : {count from size : ℕ} → size ≡ batchSize count from 8 → from < count → (0 < size) × (size ≤ 8) × (from + size ≤ count)
-batch {count} {from} e h = rw e (batch-fits count from 8 h (omega arith))
-
 fill-costs-requires : tie.Need-fill-costs-requires Inv-loop μ-loop
 fill-costs-requires c κs =
     let b = c .before in
-    let fits = batch (b .batch-size .ensures) (b .before .loop-test .taken) in
+    let fits = batch-fits (b .batch-size .ensures) (b .before .loop-test .taken) (omega arith) in
     (omega (arith, fits), omega (arith, fits), fits .1, search needs)
 
 with-costs-requires : tie.Need-with-costs-requires Inv-loop μ-loop
 with-costs-requires c κs =
     let b = c .before .before .before in
-    batch (b .batch-size .ensures) (b .before .loop-test .taken) .1
+    batch-fits (b .batch-size .ensures) (b .before .loop-test .taken) (omega arith) .1
 
 add-from : tie.Need-add-from Inv-loop μ-loop
 add-from c =
     let b = c .before .before .before .before in
-    omega (arith, batch (b .batch-size .ensures) (b .before .loop-test .taken))
+    omega (arith, batch-fits (b .batch-size .ensures) (b .before .loop-test .taken) (omega arith))
 
 loop-less : tie.Need-loop-less Inv-loop μ-loop
 loop-less c =
     let b = c .before .before .before .before in
-    omega (arith, batch (b .batch-size .ensures) (b .before .loop-test .taken))
+    omega (arith, batch-fits (b .batch-size .ensures) (b .before .loop-test .taken) (omega arith))
 
 loop-again : tie.Need-loop-again Inv-loop μ-loop
 loop-again c =
@@ -52,7 +48,7 @@ loop-again c =
     let size = b .batch-size .result in
     let cost = costAt (a .frames .now) (a .actions .now) (a .normal) (a .offset) (a .weight) in
     let batched : c .with-costs .result ≡ sumFrom (at .sum) size (λ k. cost (at .from + k)) = c .with-costs .ensures ∙ sumFrom-same (at .sum) size _ _ (filled .fill-costs .ensures .1) in (
-      batch (b .batch-size .ensures) (b .before .loop-test .taken) .2,
+      batch-fits (b .batch-size .ensures) (b .before .loop-test .taken) (omega arith) .2,
       filled .fill-costs .ensures .0,
       rw (at .inv .2) at batched ∙ sym (sumFrom-parts zeroF (at .from) size cost),
     )

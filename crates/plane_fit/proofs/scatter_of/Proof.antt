@@ -4,7 +4,7 @@ use Prim.Native.Nat.{ℕ, _≤_, _<_, _+_, _-_}
 use native.Mathlib.Omega.{arith}
 use borrow.Author.Needs.{needs}
 use lib.ListN.{length}
-use Rattle.plane_fit.specs.Batch.{batchSize, batch-fits}
+use Rattle.lists.specs.Batch.{batch-fits}
 use Rattle.plane_fit.specs.Steps.{spreadUpto}
 use Rattle.plane_fit.specs.Parts.{BATCH, batch-more}
 use Rattle.plane_fit.proofs.scatter_of.Statement.{statement}
@@ -17,39 +17,35 @@ Inv-loop frames actions count mean s₀ parts₀ from₀ s parts from =
 abbrev μ-loop : tie.MeasureT-loop
 μ-loop frames actions count mean s₀ parts₀ from₀ s parts from = count - from
 
--- the batch's size is within its bounds
-fits : {count from size : ℕ} → from < count → size ≡ batchSize count from BATCH → (0 < size) × (size ≤ BATCH) × (from + size ≤ count)
-fits {count} {from} h e = rw e (batch-fits count from 8 h (omega arith))
-
 fill-parts-requires : tie.Need-fill-parts-requires Inv-loop μ-loop
 fill-parts-requires c κs =
     let b = c .before in
-    let f = fits (b .before .loop-test .taken) (b .batch-size .ensures) in
+    let f = batch-fits (b .batch-size .ensures) (b .before .loop-test .taken) (omega arith) in
     (omega arith, omega arith, f .1, search needs)
 
 with-parts-requires : tie.Need-with-parts-requires Inv-loop μ-loop
 with-parts-requires c κs =
     let b = c .before .before .before in
-    let f = fits (b .before .loop-test .taken) (b .batch-size .ensures) in
+    let f = batch-fits (b .batch-size .ensures) (b .before .loop-test .taken) (omega arith) in
     omega arith
 
 add-from : tie.Need-add-from Inv-loop μ-loop
 add-from c =
     let b = c .before .before .before .before in
-    let f = fits (b .before .loop-test .taken) (b .batch-size .ensures) in
+    let f = batch-fits (b .batch-size .ensures) (b .before .loop-test .taken) (omega arith) in
     omega arith
 
 loop-less : tie.Need-loop-less Inv-loop μ-loop
 loop-less c =
     let b = c .before .before .before .before in
-    let f = fits (b .before .loop-test .taken) (b .batch-size .ensures) in
+    let f = batch-fits (b .batch-size .ensures) (b .before .loop-test .taken) (omega arith) in
     omega arith
 
 loop-again : tie.Need-loop-again Inv-loop μ-loop
 loop-again c =
     let filled = c .before .before in
     let b = filled .before .before in
-    let f = fits (b .before .loop-test .taken) (b .batch-size .ensures) in
+    let f = batch-fits (b .batch-size .ensures) (b .before .loop-test .taken) (omega arith) in
     let at = b .before .before .loop in
     let held = filled .fill-parts .ensures in
     (f .2, held .size, c .with-parts .ensures ∙ batch-more _ _ _ _ _ (at .from) _ (at .inv .2) (held .each))

@@ -1,4 +1,4 @@
--- Frames taken in batches: how many are in the one that starts at frame `from`. A definition and its law; assumes nothing.
+-- A list taken in batches: how many of `count` are in the one that starts at number `from`. A definition and its law; assumes nothing.
 use mathlib.Core.Path.{_≡_, refl}
 use mathlib.Core.Bool.{Bool, true, false, cond}
 use Prim.Native.Nat.{ℕ, _+_, _-_, _≤_, _<_}
@@ -11,9 +11,9 @@ unfoldable pub batchSize : ℕ → ℕ → ℕ → ℕ
 batchSize count from most = cond (leb most (count - from)) most (count - from)
 
 -- a batch is within its bounds, and never empty before the end
-pub batch-fits : (count from most : ℕ) → from < count → 0 < most → (0 < batchSize count from most) × (batchSize count from most ≤ most) × (from + batchSize count from most ≤ count)
+pub batch-fits : {count from most size : ℕ} → size ≡ batchSize count from most → from < count → 0 < most → (0 < size) × (size ≤ most) × (from + size ≤ count)
 unfolding batchSize
-batch-fits count from most h p = go (leb most (count - from)) refl
+batch-fits {count} {from} {most} e h p = rw e (go (leb most (count - from)) refl)
   where
     go : (b : Bool) → leb most (count - from) ≡ b → (0 < cond b most (count - from)) × (cond b most (count - from) ≤ most) × (from + cond b most (count - from) ≤ count)
     go true e = (p, omega arith, omega (arith, leb-true most (count - from) e))

@@ -1,9 +1,9 @@
--- `plane_fit::batch_size` meets its contract. Assumes nothing.
+-- `lists::batch_size` meets its contract. Assumes nothing.
 use borrow.Author.Tests.{le-leb, lt-leb}
 use borrow.Author.Needs.{needs}
-use Rattle.plane_fit.specs.Batch.{batchSize}
-use Rattle.plane_fit.proofs.batch_size.Statement.{statement}
-use Rattle.plane_fit.proofs.batch_size.Tie as tie
+use Rattle.lists.specs.Batch.{batchSize}
+use Rattle.lists.proofs.batch_size.Statement.{statement}
+use Rattle.lists.proofs.batch_size.Tie as tie
 
 returns : tie.Need-returns
 unfolding batchSize
