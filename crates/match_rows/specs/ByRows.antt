@@ -11,8 +11,8 @@ use Rattle.sums.specs.Sum.{_⊗_, sumTo, sumFrom, grid, off}
 use Rattle.sums.specs.Laws.{sumTo-same, at-grid, off-add}
 use Rattle.lists.specs.Part.{_!_}
 use Rattle.derivative.specs.Derivative.{normalRow, shifted}
-use Rattle.map_plane.specs.Match.{point, normal, information}
-use Rattle.match_rows.specs.Row.{rowOf, row}
+use Rattle.map_plane.specs.Match.{matchAt, point, normal, information}
+use Rattle.match_rows.specs.Row.{rowOf, informationAt, rowAt}
 
 -- entry c of row e of the four matrices `origin` and `axes` one below the other: twelve rows of nine
 abbrev pub byRowsAt : List Float → ℕ → ℕ → Float
@@ -33,6 +33,10 @@ normalBy t n k c = sumTo 3 (λ r. n ! r ⊗ t ! front ((3 * k + r) * 9) c)
 -- the row's number c
 abbrev pub rowBy : List Float → List Float → List Float → Float → ℕ → Float
 rowBy t s n info c = sumFrom (normalBy t n 0 c) 3 (λ l. normalBy t n (suc l) c ⊗ s ! l) ⊗ info
+
+-- the same of match k of a list, scaled by info
+unfoldable pub rowByAt : List Float → List Float → ℕ → Float → ℕ → Float
+rowByAt t ms k info c = rowBy t (point (matchAt ms k)) (normal (matchAt ms k)) info c
 
 -- ---- laws
 front-add : (b c : ℕ) → front b c ≡ b + c
@@ -63,7 +67,11 @@ row-by-rows x s n info c l =
       normal-rows x n 3 c (omega arith) l,
     )
 
--- a number of a match's row, worked out from the action by rows
-pub row-is : (x t m : List Float) (dof c : ℕ) → t ≡ byRows x → dof ≤ 9 → c < dof → rowBy t (point m) (normal m) (information m) c ≡ row x m c
-row-is x t m dof c e w h =
-    ap (λ (t : List Float). rowBy t (point m) (normal m) (information m) c) e ∙ row-by-rows x (point m) (normal m) (information m) c (omega arith)
+-- a number of the row of match k, worked out from the action by rows and the match's information
+pub row-is : (x t ms : List Float) (k : ℕ) (info : Float) (dof c : ℕ) → t ≡ byRows x → info ≡ informationAt ms k → dof ≤ 9 → c < dof → rowByAt t ms k info c ≡ rowAt x ms k c
+unfolding rowByAt rowAt informationAt
+row-is x t ms k info dof c e i w h =
+    let m = matchAt ms k in
+    ap (λ (t : List Float). rowBy t (point m) (normal m) info c) e
+    ∙ ap (λ (info : Float). rowBy (byRows x) (point m) (normal m) info c) i
+    ∙ row-by-rows x (point m) (normal m) (information m) c (omega arith)

@@ -22,7 +22,10 @@ residual x m = residualOf x (point m) (normal m) (offset m) (information m)
 abbrev pub row : List Float → List Float → ℕ → Float
 row x m c = rowOf x (point m) (normal m) (information m) c
 
--- and of match k of a list
+-- and of match k of a list, with its information
+unfoldable pub informationAt : List Float → ℕ → Float
+informationAt ms k = information (matchAt ms k)
+
 unfoldable pub residualAt : List Float → List Float → ℕ → Float
 residualAt x ms k = residual x (matchAt ms k)
 

@@ -5,8 +5,8 @@ ghost use lib.ListN.{length};
 ghost use Rattle.sums.specs.Fill.{First};
 ghost use Rattle.derivative.specs.Action.{actionSize};
 ghost use Rattle.map_plane.specs.Match.{MATCH};
-ghost use Rattle.match_rows.specs.Row.{residualOf, residualAt, rowAt};
-ghost use Rattle.match_rows.specs.ByRows.{byRows, rowBy};
+ghost use Rattle.match_rows.specs.Row.{residualOf, residualAt, informationAt};
+ghost use Rattle.match_rows.specs.ByRows.{byRows, rowBy, rowByAt};
 use map_plane::MATCH;
 
 // The distance from the plane of the point that the action carries into the site, times information.
@@ -40,7 +40,7 @@ pub fn by_rows(x: &[f64]) -> [f64; 108]
 }
 
 // Entry c of a match's row.
-fn entry(t: &[f64; 108], s: [f64; 3], n: [f64; 3], info: f64, c: usize) -> f64
+pub fn entry(t: &[f64; 108], s: [f64; 3], n: [f64; 3], info: f64, c: usize) -> f64
     requires { ⌜ c < 9 ⌝ }
     ensures { λ r. ⌜ r ≡ rowBy (now (t .entry)) s n info c ⌝ }
 {
@@ -54,35 +54,52 @@ fn entry(t: &[f64; 108], s: [f64; 3], n: [f64; 3], info: f64, c: usize) -> f64
     (p0 + p1 * s[0] + p2 * s[1] + p3 * s[2]) * info
 }
 
-// The first `width` numbers of a match's row.
-fn row_of(t: &[f64; 108], s: [f64; 3], n: [f64; 3], info: f64, width: usize, row: &mut [f64; 9])
-    requires { ⌜ (width ≤ 9) × (length (now row) ≡ 9) ⌝ }
-    ensures { λ _. ⌜ First width (now (row .exit)) (rowBy (now (t .entry)) s n info) ⌝ }
+// The numbers `from` up to `to` of a match's row, where those before are stored already.
+fn row_of(
+    t: &[f64; 108],
+    s: [f64; 3],
+    n: [f64; 3],
+    info: f64,
+    from: usize,
+    to: usize,
+    row: &mut [f64; 9],
+)
+    requires { ⌜ (from ≤ to) × (to ≤ 9) × (length (now row) ≡ 9) × First from (now row) (rowBy (now t) s n info) ⌝ }
+    ensures { λ _. ⌜ (length (now (row .exit)) ≡ 9) × First to (now (row .exit)) (rowBy (now (t .entry)) s n info) ⌝ }
 {
-    let mut c = 0;
-    while c < width {
+    let mut c = from;
+    while c < to {
         row[c] = entry(t, s, n, info, c);
         c += 1;
     }
 }
 
-// The same, with a copy of the code for each width.
+// All nine, in two loops that are short enough for the compiler to unroll.
+fn row_nine(t: &[f64; 108], s: [f64; 3], n: [f64; 3], info: f64, row: &mut [f64; 9])
+    requires { ⌜ length (now row) ≡ 9 ⌝ }
+    ensures { λ _. ⌜ First 9 (now (row .exit)) (rowBy (now (t .entry)) s n info) ⌝ }
+{
+    row_of(t, s, n, info, 0, 6, row);
+    row_of(t, s, n, info, 6, 9, row);
+}
+
+// The first `dof` numbers, with a copy of the code for each width.
 fn row_by(t: &[f64; 108], s: [f64; 3], n: [f64; 3], info: f64, dof: usize, row: &mut [f64; 9])
     requires { ⌜ (dof ≤ 9) × (length (now row) ≡ 9) ⌝ }
     ensures { λ _. ⌜ First dof (now (row .exit)) (rowBy (now (t .entry)) s n info) ⌝ }
 {
     match dof {
-        0 => row_of(t, s, n, info, 0, row),
-        1 => row_of(t, s, n, info, 1, row),
-        2 => row_of(t, s, n, info, 2, row),
-        3 => row_of(t, s, n, info, 3, row),
-        4 => row_of(t, s, n, info, 4, row),
-        5 => row_of(t, s, n, info, 5, row),
-        6 => row_of(t, s, n, info, 6, row),
-        7 => row_of(t, s, n, info, 7, row),
-        8 => row_of(t, s, n, info, 8, row),
-        9 => row_of(t, s, n, info, 9, row),
-        _ => row_of(t, s, n, info, dof, row),
+        0 => row_of(t, s, n, info, 0, 0, row),
+        1 => row_of(t, s, n, info, 0, 1, row),
+        2 => row_of(t, s, n, info, 0, 2, row),
+        3 => row_of(t, s, n, info, 0, 3, row),
+        4 => row_of(t, s, n, info, 0, 4, row),
+        5 => row_of(t, s, n, info, 0, 5, row),
+        6 => row_of(t, s, n, info, 0, 6, row),
+        7 => row_of(t, s, n, info, 0, 7, row),
+        8 => row_of(t, s, n, info, 0, 8, row),
+        9 => row_nine(t, s, n, info, row),
+        _ => row_of(t, s, n, info, 0, dof, row),
     }
 }
 
@@ -97,23 +114,21 @@ pub fn residual_at(list: &[f64], k: usize, x: &[f64]) -> f64
     residual(x, s, n, list[at + 6], 1.0 / list[at + 7])
 }
 
-// The same, and the first `dof` numbers of its row. `t` is the action by rows: made once, it serves every match.
-pub fn residual_and_row(
-    list: &[f64],
-    k: usize,
-    x: &[f64],
-    t: &[f64; 108],
-    dof: usize,
-    row: &mut [f64; 9],
-) -> f64
-    requires { ⌜ (k * MATCH + MATCH ≤ length (now list)) × (length (now x) ≡ actionSize) × (now t ≡ byRows (now x)) × (dof ≤ 9) × (length (now row) ≡ 9) ⌝ }
-    ensures { λ r. ⌜ (r ≡ residualAt (now (x .entry)) (now (list .entry)) k) × First dof (now (row .exit)) (rowAt (now (x .entry)) (now (list .entry)) k) ⌝ }
+// The information of match k, 1 / sigma.
+pub fn information_at(list: &[f64], k: usize) -> f64
+    requires { ⌜ k * MATCH + MATCH ≤ length (now list) ⌝ }
+    ensures { λ r. ⌜ r ≡ informationAt (now (list .entry)) k ⌝ }
+{
+    1.0 / list[k * MATCH + 7]
+}
+
+// The first `dof` numbers of the row of match k, whose information is `info`. `t` is the action by rows: made once, it serves every match.
+pub fn row_at(list: &[f64], k: usize, t: &[f64; 108], info: f64, dof: usize, row: &mut [f64; 9])
+    requires { ⌜ (k * MATCH + MATCH ≤ length (now list)) × (dof ≤ 9) × (length (now row) ≡ 9) ⌝ }
+    ensures { λ _. ⌜ First dof (now (row .exit)) (rowByAt (now (t .entry)) (now (list .entry)) k info) ⌝ }
 {
     let at = k * MATCH;
     let s = [list[at], list[at + 1], list[at + 2]];
     let n = [list[at + 3], list[at + 4], list[at + 5]];
-    let info = 1.0 / list[at + 7];
-    let r = residual(x, s, n, list[at + 6], info);
     row_by(t, s, n, info, dof, row);
-    r
 }

@@ -2,7 +2,7 @@
 use Prim.Native.Nat.{ℕ, _+_, _*_, _-_, _<_, _≤_}
 use mathlib.Core.Bool.{Bool, true, false, cond}
 use native.Mathlib.Numerals.{add-one}
-use native.Mathlib.Nat.{eq-or-lt-of-le, le-of-suc-le-suc, not-suc-le-zero, zero-add}
+use native.Mathlib.Nat.{eq-or-lt-of-le, le-of-suc-le-suc, not-suc-le-zero, zero-add, add-assoc}
 use native.Mathlib.Omega.{arith}
 use mathlib.Core.Path.{_≡_, refl, sym, ap, _∙_}
 use mathlib.Core.Logic.{⊎-elim}
@@ -13,7 +13,7 @@ use lib.Seq.{getD-set-same, getD-set-other}
 use lib.Ieee.{Float, nan}
 use borrow.Author.Tests.{leb-true, leb-false}
 use Rattle.sums.specs.Sum.{_⊕_, _⊗_, zeroF, sumFrom}
-use Rattle.sums.specs.Laws.{sumFrom-more, sumFrom-same}
+use Rattle.sums.specs.Laws.{sumFrom-more, sumFrom-same, sumFrom-parts}
 use Rattle.lists.specs.Part.{_!_}
 use Rattle.match_sums.specs.Groups.{GROUP, groups, groupSize, groupSum, byGroups}
 use Rattle.match_sums.specs.Cells.{Raised, Upper, Added, Summed, cell, squares, slants}
@@ -86,6 +86,30 @@ summed-more width n f e h g h1 g1 h2 g2 s a =
       numbers = λ i l. a .numbers i l ∙ ap (λ x. x ⊕ e i n) (s .numbers i l) ∙ sym (sumFrom-more _ n _);
       size = a .size ∙ s .size;
       long = a .long ∙ s .long;
+    }
+
+-- equal terms
+pub summed-same : (width n : ℕ) (f f′ : ℕ → ℕ → ℕ → Float) (e e′ : ℕ → ℕ → Float) (h g h′ g′ : List Float) → ((i j k : ℕ) → i ≤ j → j < width → k < n → f i j k ≡ f′ i j k) → ((i k : ℕ) → i < width → k < n → e i k ≡ e′ i k) → Summed width n f e h g h′ g′ → Summed width n f′ e′ h g h′ g′
+summed-same width n f f′ e e′ h g h′ g′ p q s =
+    record {
+      cells = λ i j l m. s .cells i j l m ∙ sumFrom-same _ n _ _ (λ k t. p i j k l m t);
+      numbers = λ i l. s .numbers i l ∙ sumFrom-same _ n _ _ (λ k t. q i k l t);
+      size = s .size;
+      long = s .long;
+    }
+
+-- the terms from `from` on in two parts: of one sum, and of all
+pub sum-parts : (a : Float) (from m n : ℕ) (f : ℕ → Float) → sumFrom (sumFrom a m (λ k. f (from + k))) n (λ k. f (from + m + k)) ≡ sumFrom a (m + n) (λ k. f (from + k))
+sum-parts a from m n f =
+    sumFrom-same _ n _ _ (λ k l. ap f (add-assoc from m k)) ∙ sym (sumFrom-parts a m n (λ k. f (from + k)))
+
+pub summed-parts : (width from m n : ℕ) (f : ℕ → ℕ → ℕ → Float) (e : ℕ → ℕ → Float) (h g h1 g1 h2 g2 : List Float) → Summed width m (λ i j k. f i j (from + k)) (λ i k. e i (from + k)) h g h1 g1 → Summed width n (λ i j k. f i j (from + m + k)) (λ i k. e i (from + m + k)) h1 g1 h2 g2 → Summed width (m + n) (λ i j k. f i j (from + k)) (λ i k. e i (from + k)) h g h2 g2
+summed-parts width from m n f e h g h1 g1 h2 g2 s t =
+    record {
+      cells = λ i j l w. t .cells i j l w ∙ ap (λ x. sumFrom x n (λ k. f i j (from + m + k))) (s .cells i j l w) ∙ sum-parts _ from m n (f i j);
+      numbers = λ i l. t .numbers i l ∙ ap (λ x. sumFrom x n (λ k. e i (from + m + k))) (s .numbers i l) ∙ sum-parts _ from m n (e i);
+      size = t .size ∙ s .size;
+      long = t .long ∙ s .long;
     }
 
 -- ---- groups

@@ -2,4 +2,5 @@ pub mod Groups
 pub mod Cells
 pub mod Sums
 pub mod Laws
+pub mod Batch
 pub mod Whole

@@ -1,16 +1,18 @@
 // What a match list sums to under an action: its cost, and the block and the vector of the normal equations, by groups of 512 matches.
 // row_i·row_j and row_j·row_i have the same bits, so only the upper half of the block is summed; it is mirrored at the end.
 ghost use mathlib.Core.Path.{_≡_};
-ghost use Prim.Native.Nat.{ℕ, _+_, _*_, _/_, _<_, _≤_, _-_};
+ghost use Prim.Native.Nat.{ℕ, _+_, _*_, _/_, _<_, _≤_, _-_, min};
 ghost use lib.ListN.{length};
 ghost use Rattle.sums.specs.Sum.{_⊗_, zeroF, sumFrom, grid};
+ghost use Rattle.sums.specs.Fill.{First};
 ghost use Rattle.lists.specs.Part.{_!_};
 ghost use Rattle.derivative.specs.Action.{actionSize};
 ghost use Rattle.map_plane.specs.Match.{MATCH};
-ghost use Rattle.match_rows.specs.Row.{residualAt, rowAt};
-ghost use Rattle.match_rows.specs.ByRows.{byRows};
+ghost use Rattle.match_rows.specs.Row.{residualAt, informationAt};
+ghost use Rattle.match_rows.specs.ByRows.{byRows, rowByAt};
 ghost use Rattle.match_sums.specs.Groups.{GROUP, groups, groupSize, groupSum, byGroups, costTerm, blockTerm, vectorTerm, matchCount, listCost};
 ghost use Rattle.match_sums.specs.Cells.{squares, slants, Added, Summed, Raised, upperPlace};
+ghost use Rattle.match_sums.specs.Batch.{batchCost, batchBlock, batchVector};
 ghost use Rattle.match_sums.specs.Sums.{SumsAre};
 use map_plane::MATCH;
 
@@ -65,26 +67,86 @@ fn add_by(row: &[f64; 9], r: f64, dof: usize, h: &mut [f64; 81], g: &mut [f64; 9
     }
 }
 
-// Adds match k, and gives its residual.
+// How many matches' informations and residuals are worked out before the matches are added.
+const BATCH: usize = 16;
+
+// The informations and residuals of a batch of matches from match `from` on: the loop's stores are neighbours, so that the compiler works
+// out two matches at a time.
+fn fill_batch(
+    list: &[f64],
+    from: usize,
+    size: usize,
+    x: &[f64],
+    infos: &mut [f64; 16],
+    residuals: &mut [f64; 16],
+)
+    requires { ⌜ ((from + size) * MATCH ≤ length (now list)) × (size ≤ 16) × (length (now x) ≡ actionSize) × (length (now infos) ≡ 16) × (length (now residuals) ≡ 16) ⌝ }
+    ensures { λ _. ⌜ (length (now (infos .exit)) ≡ 16) × (length (now (residuals .exit)) ≡ 16) × First size (now (infos .exit)) (λ k. informationAt (now (list .entry)) (from + k)) × First size (now (residuals .exit)) (λ k. residualAt (now (x .entry)) (now (list .entry)) (from + k)) ⌝ }
+{
+    let mut k = 0;
+    while k < size {
+        infos[k] = match_rows::information_at(list, from + k);
+        residuals[k] = match_rows::residual_at(list, from + k, x);
+        k += 1;
+    }
+}
+
+// Adds match k, whose information and residual are worked out.
 fn add_match(
     list: &[f64],
     k: usize,
-    x: &[f64],
     t: &[f64; 108],
     dof: usize,
+    info: f64,
+    r: f64,
     h: &mut [f64; 81],
     g: &mut [f64; 9],
-) -> f64
-    requires { ⌜ (k * MATCH + MATCH ≤ length (now list)) × (length (now x) ≡ actionSize) × (now t ≡ byRows (now x)) × (dof ≤ 9) × (length (now h) ≡ 81) × (length (now g) ≡ 9) ⌝ }
-    ensures { λ r. ⌜ (r ≡ residualAt (now (x .entry)) (now (list .entry)) k) × Added dof (squares (rowAt (now (x .entry)) (now (list .entry)) k)) (slants (rowAt (now (x .entry)) (now (list .entry)) k) (residualAt (now (x .entry)) (now (list .entry)) k)) (now (h .entry)) (now (g .entry)) (now (h .exit)) (now (g .exit)) ⌝ }
+)
+    requires { ⌜ (k * MATCH + MATCH ≤ length (now list)) × (dof ≤ 9) × (length (now h) ≡ 81) × (length (now g) ≡ 9) ⌝ }
+    ensures { λ _. ⌜ Added dof (squares (rowByAt (now (t .entry)) (now (list .entry)) k info)) (slants (rowByAt (now (t .entry)) (now (list .entry)) k info) r) (now (h .entry)) (now (g .entry)) (now (h .exit)) (now (g .exit)) ⌝ }
 {
     let mut row = [0.0; 9];
-    let r = match_rows::residual_and_row(list, k, x, t, dof, &mut row);
+    match_rows::row_at(list, k, t, info, dof, &mut row);
     add_by(&row, r, dof, h, g);
-    r
 }
 
-// Adds `size` matches from `from` on, and gives the sum of their squared residuals.
+// Adds the matches of a batch, whose numbers are filled, and gives the cost with their squared residuals.
+fn add_batch(
+    list: &[f64],
+    from: usize,
+    size: usize,
+    t: &[f64; 108],
+    dof: usize,
+    infos: &[f64; 16],
+    residuals: &[f64; 16],
+    h: &mut [f64; 81],
+    g: &mut [f64; 9],
+    cost: f64,
+) -> f64
+    requires { ⌜ ((from + size) * MATCH ≤ length (now list)) × (size ≤ 16) × (dof ≤ 9) × (length (now h) ≡ 81) × (length (now g) ≡ 9) ⌝ }
+    ensures { λ r. ⌜ (r ≡ sumFrom cost size (batchCost (now (residuals .entry)))) × Summed dof size (batchBlock (now (t .entry)) (now (list .entry)) from (now (infos .entry))) (batchVector (now (t .entry)) (now (list .entry)) from (now (infos .entry)) (now (residuals .entry))) (now (h .entry)) (now (g .entry)) (now (h .exit)) (now (g .exit)) ⌝ }
+{
+    let mut sum = cost;
+    let mut k = 0;
+    while k < size {
+        let r = residuals[k];
+        add_match(list, from + k, t, dof, infos[k], r, h, g);
+        sum = sum + r * r;
+        k += 1;
+    }
+    sum
+}
+
+// How many of `size` matches are in a batch that starts after `i` of them.
+fn batch_size(size: usize, i: usize) -> usize
+    requires { ⌜ i ≤ size ⌝ }
+    ensures { λ r. ⌜ r ≡ min (size - i) 16 ⌝ }
+{
+    let left = size - i;
+    if left < BATCH { left } else { BATCH }
+}
+
+// Adds `size` matches from `from` on, batch after batch, and gives the sum of their squared residuals.
 fn add_group(
     list: &[f64],
     from: usize,
@@ -99,11 +161,14 @@ fn add_group(
     ensures { λ r. ⌜ (r ≡ sumFrom zeroF size (λ k. costTerm (now (x .entry)) (now (list .entry)) (from + k))) × Summed dof size (λ i j k. blockTerm (now (x .entry)) (now (list .entry)) i j (from + k)) (λ i k. vectorTerm (now (x .entry)) (now (list .entry)) i (from + k)) (now (h .entry)) (now (g .entry)) (now (h .exit)) (now (g .exit)) ⌝ }
 {
     let mut cost = 0.0;
+    let mut infos = [0.0; 16];
+    let mut residuals = [0.0; 16];
     let mut i = 0;
     while i < size {
-        let r = add_match(list, from + i, x, t, dof, h, g);
-        cost = cost + r * r;
-        i += 1;
+        let b = batch_size(size, i);
+        fill_batch(list, from + i, b, x, &mut infos, &mut residuals);
+        cost = add_batch(list, from + i, b, t, dof, &infos, &residuals, h, g, cost);
+        i = i + b;
     }
     cost
 }

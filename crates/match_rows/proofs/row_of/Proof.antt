@@ -1,5 +1,4 @@
--- `match_rows::row_of` meets its contract. Assumes nothing.
-use native.Mathlib.Nat.{not-suc-le-zero}
+-- `match_rows::row_of` meets its contract: after each turn one more number of the row is stored. Assumes nothing.
 use Prim.Native.Nat.{_≤_, _-_}
 use mathlib.Core.Path.{_≡_}
 use native.Mathlib.Omega.{arith}
@@ -11,14 +10,14 @@ use Rattle.match_rows.proofs.row_of.Statement.{statement}
 use Rattle.match_rows.proofs.row_of.Tie as tie
 
 abbrev Inv-loop : tie.InvT-loop
-Inv-loop t s n info width row₀ c₀ row c =
-    (c ≤ width) × (length row ≡ 9) × First c row (rowBy t s n info)
+Inv-loop t s n info from to row₀ c₀ row c =
+    (c ≤ to) × (length row ≡ 9) × First c row (rowBy t s n info)
 
 abbrev μ-loop : tie.MeasureT-loop
-μ-loop t s n info width row₀ c₀ row c = width - c
+μ-loop t s n info from to row₀ c₀ row c = to - c
 
 loop-holds : tie.Need-loop-holds Inv-loop μ-loop
-loop-holds c = (search needs, search needs, λ k h. absurd (not-suc-le-zero h))
+loop-holds c = (search needs, search needs, c .pre .3)
 
 loop-again : tie.Need-loop-again Inv-loop μ-loop
 loop-again c =
@@ -27,8 +26,9 @@ loop-again c =
 
 returns : tie.Need-returns Inv-loop μ-loop
 returns c =
-    let e : c .before .before .args .width ≡ c .before .loop .c = omega arith in
-    rw e (c .before .loop .inv .2)
+    let at = c .before .loop in
+    let e : c .before .before .args .to ≡ at .c = omega arith in
+    (at .inv .1, rw e (at .inv .2))
 
 pub row-of-spec : {M : Type 1} → statement M
 row-of-spec =

@@ -1,45 +1,84 @@
--- `match_sums::add_group` meets its contract: match after match. Assumes nothing.
-use Prim.Native.Nat.{_≤_, _-_, _+_}
-use mathlib.Core.Path.{_≡_, refl}
+-- `match_sums::add_group` meets its contract: whenever a batch starts, the matches before it are added. Assumes nothing.
+use Prim.Native.Nat.{ℕ, _≤_, _<_, _-_, _+_, min}
+use mathlib.Core.Path.{_≡_, refl, ap, _∙_}
+use native.Mathlib.Nat.{min-le-left, min-le-right, le-min}
 use native.Mathlib.Omega.{arith}
 use lib.ListN.{length}
 use Rattle.sums.specs.Sum.{zeroF, sumFrom}
 use Rattle.match_sums.specs.Groups.{costTerm, blockTerm, vectorTerm}
 use Rattle.match_sums.specs.Cells.{Summed}
-use Rattle.match_sums.specs.Laws.{summed-none, summed-more}
-use Rattle.sums.specs.Laws.{sumFrom-more}
+use Rattle.match_sums.specs.Laws.{summed-none, sum-parts, summed-parts}
+use Rattle.match_sums.specs.Batch.{batch-cost, batch-summed}
 use borrow.Author.Needs.{needs}
 use Rattle.match_sums.proofs.add_group.Statement.{statement}
 use Rattle.match_sums.proofs.add_group.Tie as tie
 
 abbrev Inv-loop : tie.InvT-loop
-Inv-loop list from size x t dof h₀ g₀ cost₀ i₀ h g cost i =
-    (i ≤ size) × (length h ≡ 81) × (length g ≡ 9) × (cost ≡ sumFrom zeroF i (λ k. costTerm x list (from + k))) × Summed dof i (λ i j k. blockTerm x list i j (from + k)) (λ i k. vectorTerm x list i (from + k)) h₀ g₀ h g
+Inv-loop list from size x t dof h₀ g₀ cost₀ infos₀ residuals₀ i₀ h g cost infos residuals i =
+    (i ≤ size) × (length h ≡ 81) × (length g ≡ 9) × (length infos ≡ 16) × (length residuals ≡ 16) × (cost ≡ sumFrom zeroF i (λ k. costTerm x list (from + k))) × Summed dof i (λ i j k. blockTerm x list i j (from + k)) (λ i k. vectorTerm x list i (from + k)) h₀ g₀ h g
 
 abbrev μ-loop : tie.MeasureT-loop
-μ-loop list from size x t dof h₀ g₀ cost₀ i₀ h g cost i = size - i
+μ-loop list from size x t dof h₀ g₀ cost₀ infos₀ residuals₀ i₀ h g cost infos residuals i = size - i
+
+-- a batch of the matches after i is not empty, fits the arrays, and ends within the matches
+batch : {size i b : ℕ} → b ≡ min (size - i) 16 → i < size → (0 < b) × (b ≤ 16) × (i + b ≤ size)
+batch {size} {i} e h =
+    let m : min (size - i) 16 ≤ size - i = min-le-left (size - i) 16 in
+    rw e (le-min (omega arith) (omega arith), min-le-right (size - i) 16, omega arith)
 
 loop-holds : tie.Need-loop-holds Inv-loop μ-loop
-loop-holds c = (search needs, search needs, search needs, refl, summed-none _ _ _ _ _)
+loop-holds c = (search needs, search needs, search needs, search needs, search needs, refl, summed-none _ _ _ _ _)
+
+fill-batch-requires : tie.Need-fill-batch-requires Inv-loop μ-loop
+fill-batch-requires c κs =
+    let sized = c .before .before in
+    let fits = batch (sized .batch-size .ensures) (sized .before .loop-test .taken) in
+    (omega (arith, fits), fits .1, search needs, search needs, search needs)
+
+add-batch-requires : tie.Need-add-batch-requires Inv-loop μ-loop
+add-batch-requires c κs =
+    let sized = c .before .before .before .before .before .before .before in
+    let start = sized .before .before .before .before .before in
+    let fits = batch (sized .batch-size .ensures) (sized .before .loop-test .taken) in
+    (omega (arith, fits, start .pre .0), fits .1, start .pre .3, sized .before .before .loop .inv .1, sized .before .before .loop .inv .2)
+
+add-i : tie.Need-add-i Inv-loop μ-loop
+add-i c =
+    let sized = c .before .before .before .before .before .before .before .before in
+    omega (arith, batch (sized .batch-size .ensures) (sized .before .loop-test .taken))
+
+loop-less : tie.Need-loop-less Inv-loop μ-loop
+loop-less c =
+    let sized = c .before .before .before .before .before .before .before .before in
+    omega (arith, batch (sized .batch-size .ensures) (sized .before .loop-test .taken))
 
 loop-again : tie.Need-loop-again Inv-loop μ-loop
-unfolding costTerm blockTerm vectorTerm
 loop-again c =
-    let at = c .before .before .before .before .loop in
-    let a = c .before .before .before .before .before .before .before .args in
-    let did = c .add-match .ensures in (
-      search needs,
-      omega (arith, did .1 .size),
-      omega (arith, did .1 .long),
-      rw (sumFrom-more _ (at .i) _, did .0, at .inv .3),
-      summed-more (a .dof) (at .i) _ _ _ _ _ _ _ _ (at .inv .4) (did .1),
+    let filled = c .before .before .before .before .before in
+    let sized = filled .before .before .before in
+    let at = sized .before .before .loop in
+    let start = sized .before .before .before .before .before in
+    let a = start .args in
+    let x = a .x .now in
+    let ms = a .list .now in
+    let b = sized .batch-size .result in
+    let given = filled .fill-batch .ensures in
+    let did = c .add-batch .ensures in
+    let summed = batch-summed x (a .t .now) ms (a .dof) (a .from + at .i) b _ _ _ _ _ _ (start .pre .2) (start .pre .3) (given .2) (given .3) (did .1) in (
+      batch (sized .batch-size .ensures) (sized .before .loop-test .taken) .2,
+      did .1 .size ∙ at .inv .1,
+      did .1 .long ∙ at .inv .2,
+      given .0,
+      given .1,
+      did .0 ∙ batch-cost x ms (a .from + at .i) b _ (at .cost) (given .3) ∙ ap (λ s. sumFrom s b (λ k. costTerm x ms (a .from + at .i + k))) (at .inv .5) ∙ sum-parts zeroF (a .from) (at .i) b (costTerm x ms),
+      summed-parts (a .dof) (a .from) (at .i) b (blockTerm x ms) (vectorTerm x ms) _ _ _ _ _ _ (at .inv .6) summed,
     )
 
 returns : tie.Need-returns Inv-loop μ-loop
 returns c =
     let at = c .before .loop in
     let e : c .before .before .before .before .args .size ≡ at .i = omega arith in
-    rw e (at .inv .3, at .inv .4)
+    rw e (at .inv .5, at .inv .6)
 
 pub add-group-spec : {M : Type 1} → statement M
 add-group-spec =
@@ -48,9 +87,12 @@ add-group-spec =
     Inv-loop
     μ-loop
     loop-holds
-    (λ c. search needs)
     (λ c κs. search needs)
     (λ c. search needs)
+    fill-batch-requires
     (λ c. search needs)
+    add-batch-requires
+    add-i
+    loop-less
     loop-again
     returns)

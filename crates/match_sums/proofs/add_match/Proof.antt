@@ -1,4 +1,5 @@
 -- `match_sums::add_match` meets its contract. Assumes nothing.
+use mathlib.Core.Path.{refl}
 use Rattle.match_sums.specs.Laws.{added-same}
 use borrow.Author.Needs.{needs}
 use Rattle.match_sums.proofs.add_match.Statement.{statement}
@@ -7,8 +8,7 @@ use Rattle.match_sums.proofs.add_match.Tie as tie
 returns : tie.Need-returns
 returns c =
     let rows = c .before .before .before .before in
-    let did = rows .residual-and-row .ensures in
-    (did .0, added-same _ _ _ _ _ _ _ _ _ (did .1) (did .0) (c .add-by .ensures))
+    added-same _ _ _ _ _ _ _ _ _ (rows .row-at .ensures) refl (c .add-by .ensures)
 
 pub add-match-spec : {M : Type 1} → statement M
 add-match-spec =
