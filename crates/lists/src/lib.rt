@@ -1,10 +1,9 @@
 // Numbers between lent lists and arrays by value, and how a list is taken in batches.
 ghost use mathlib.Core.Path.{_≡_};
-ghost use Prim.Native.Nat.{_+_, _≤_};
+ghost use Prim.Native.Nat.{_+_, _-_, _≤_, min};
 ghost use mathlib.Core.List.{_∷_, _++_};
 ghost use lib.ListN.{length};
 ghost use Rattle.lists.specs.Part.{part};
-ghost use Rattle.lists.specs.Batch.{batchSize};
 
 pub fn three(l: &[f64], at: usize) -> [f64; 3]
     requires { ⌜ at + 3 ≤ length (now l) ⌝ }
@@ -84,7 +83,7 @@ pub fn store(to: &mut [f64], from: &[f64])
 // How many of `count` things are in a batch of at most `most` that starts at number `from`.
 pub fn batch_size(count: usize, from: usize, most: usize) -> usize
     requires { ⌜ from ≤ count ⌝ }
-    ensures { λ r. ⌜ r ≡ batchSize count from most ⌝ }
+    ensures { λ r. ⌜ r ≡ min (count - from) most ⌝ }
 {
     let left = count - from;
     if left < most { left } else { most }

@@ -1,7 +1,7 @@
 // What a match list sums to under an action: its cost, and the block and the vector of the normal equations, by groups of 512 matches.
 // row_i·row_j and row_j·row_i have the same bits, so only the upper half of the block is summed; it is mirrored at the end.
 ghost use mathlib.Core.Path.{_≡_};
-ghost use Prim.Native.Nat.{ℕ, _+_, _*_, _/_, _<_, _≤_, _-_, min};
+ghost use Prim.Native.Nat.{ℕ, _+_, _*_, _/_, _<_, _≤_, _-_};
 ghost use lib.ListN.{length};
 ghost use Rattle.sums.specs.Sum.{_⊗_, zeroF, sumFrom, grid};
 ghost use Rattle.sums.specs.Fill.{First};
@@ -137,15 +137,6 @@ fn add_batch(
     sum
 }
 
-// How many of `size` matches are in a batch that starts after `i` of them.
-fn batch_size(size: usize, i: usize) -> usize
-    requires { ⌜ i ≤ size ⌝ }
-    ensures { λ r. ⌜ r ≡ min (size - i) 16 ⌝ }
-{
-    let left = size - i;
-    if left < BATCH { left } else { BATCH }
-}
-
 // Adds `size` matches from `from` on, batch after batch, and gives the sum of their squared residuals.
 fn add_group(
     list: &[f64],
@@ -165,7 +156,7 @@ fn add_group(
     let mut residuals = [0.0; 16];
     let mut i = 0;
     while i < size {
-        let b = batch_size(size, i);
+        let b = lists::batch_size(size, i, BATCH);
         fill_batch(list, from + i, b, x, &mut infos, &mut residuals);
         cost = add_batch(list, from + i, b, t, dof, &infos, &residuals, h, g, cost);
         i = i + b;

@@ -1,10 +1,10 @@
 -- `match_sums::add_group` meets its contract: whenever a batch starts, the matches before it are added. Assumes nothing.
-use Prim.Native.Nat.{ℕ, _≤_, _<_, _-_, _+_, min}
+use Prim.Native.Nat.{_≤_, _-_, _+_}
 use mathlib.Core.Path.{_≡_, refl, ap, _∙_}
-use native.Mathlib.Nat.{min-le-left, min-le-right, le-min}
 use native.Mathlib.Omega.{arith}
 use lib.ListN.{length}
 use Rattle.sums.specs.Sum.{zeroF, sumFrom}
+use Rattle.lists.specs.Batch.{batch-fits}
 use Rattle.match_sums.specs.Groups.{costTerm, blockTerm, vectorTerm}
 use Rattle.match_sums.specs.Cells.{Summed}
 use Rattle.match_sums.specs.Laws.{summed-none, sum-parts, summed-parts}
@@ -20,37 +20,31 @@ Inv-loop list from size x t dof h₀ g₀ cost₀ infos₀ residuals₀ i₀ h g
 abbrev μ-loop : tie.MeasureT-loop
 μ-loop list from size x t dof h₀ g₀ cost₀ infos₀ residuals₀ i₀ h g cost infos residuals i = size - i
 
--- a batch of the matches after i is not empty, fits the arrays, and ends within the matches
-batch : {size i b : ℕ} → b ≡ min (size - i) 16 → i < size → (0 < b) × (b ≤ 16) × (i + b ≤ size)
-batch {size} {i} e h =
-    let m : min (size - i) 16 ≤ size - i = min-le-left (size - i) 16 in
-    rw e (le-min (omega arith) (omega arith), min-le-right (size - i) 16, omega arith)
-
 loop-holds : tie.Need-loop-holds Inv-loop μ-loop
 loop-holds c = (search needs, search needs, search needs, search needs, search needs, refl, summed-none _ _ _ _ _)
 
 fill-batch-requires : tie.Need-fill-batch-requires Inv-loop μ-loop
 fill-batch-requires c κs =
     let sized = c .before .before in
-    let fits = batch (sized .batch-size .ensures) (sized .before .loop-test .taken) in
+    let fits = batch-fits (sized .batch-size .ensures) (sized .before .loop-test .taken) (omega arith) in
     (omega (arith, fits), fits .1, search needs, search needs, search needs)
 
 add-batch-requires : tie.Need-add-batch-requires Inv-loop μ-loop
 add-batch-requires c κs =
     let sized = c .before .before .before .before .before .before .before in
     let start = sized .before .before .before .before .before in
-    let fits = batch (sized .batch-size .ensures) (sized .before .loop-test .taken) in
+    let fits = batch-fits (sized .batch-size .ensures) (sized .before .loop-test .taken) (omega arith) in
     (omega (arith, fits, start .pre .0), fits .1, start .pre .3, sized .before .before .loop .inv .1, sized .before .before .loop .inv .2)
 
 add-i : tie.Need-add-i Inv-loop μ-loop
 add-i c =
     let sized = c .before .before .before .before .before .before .before .before in
-    omega (arith, batch (sized .batch-size .ensures) (sized .before .loop-test .taken))
+    omega (arith, batch-fits (sized .batch-size .ensures) (sized .before .loop-test .taken) (omega arith))
 
 loop-less : tie.Need-loop-less Inv-loop μ-loop
 loop-less c =
     let sized = c .before .before .before .before .before .before .before .before in
-    omega (arith, batch (sized .batch-size .ensures) (sized .before .loop-test .taken))
+    omega (arith, batch-fits (sized .batch-size .ensures) (sized .before .loop-test .taken) (omega arith))
 
 loop-again : tie.Need-loop-again Inv-loop μ-loop
 loop-again c =
@@ -65,7 +59,7 @@ loop-again c =
     let given = filled .fill-batch .ensures in
     let did = c .add-batch .ensures in
     let summed = batch-summed x (a .t .now) ms (a .dof) (a .from + at .i) b _ _ _ _ _ _ (start .pre .2) (start .pre .3) (given .2) (given .3) (did .1) in (
-      batch (sized .batch-size .ensures) (sized .before .loop-test .taken) .2,
+      batch-fits (sized .batch-size .ensures) (sized .before .loop-test .taken) (omega arith) .2,
       did .1 .size ∙ at .inv .1,
       did .1 .long ∙ at .inv .2,
       given .0,
