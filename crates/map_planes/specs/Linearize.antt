@@ -1,30 +1,24 @@
 -- The call that linearizes a match list: a residual a match, and the Jacobian of a row a match, by columns. Assumes nothing.
-use Prim.Native.Nat.{ℕ, _*_, _<_}
+use Prim.Native.Nat.{ℕ, _*_}
 use mathlib.Core.Path.{_≡_, sym, ap, _∙_}
 use mathlib.Core.Bool.{Bool, false, not, _||_, _&&_, cond}
 use mathlib.Core.List.{List}
-use native.Mathlib.Omega.{arith}
 use lib.Dec.{eqb}
 use lib.ListN.{length}
-use lib.Seq.{ext-getD}
-use lib.Ieee.{Float, nan}
+use lib.Ieee.{Float}
 use borrow.Author.Tests.{eqb-true, ne-eqb, not-false}
 use Rattle.refusals.specs.Refusal.{Answered, either-none, not-both}
-use Rattle.sums.specs.Sum.{tab, grid}
-use Rattle.sums.specs.Laws.{length-tab, getD-tab}
-use Rattle.sums.specs.Fill.{First}
-use Rattle.match_rows.specs.Row.{residualAt, rowAt}
+use Rattle.sums.specs.Sum.{grid}
+use Rattle.match_rows.specs.Row.{rowAt}
 use Rattle.match_sums.specs.Groups.{matchCount}
+use Rattle.match_columns.specs.Residuals.{residuals}
 use Rattle.map_planes.specs.Calls.{matchesRefusal}
 
 -- 3: not a residual for each of n matches, or a Jacobian of neither n rows and dof columns nor nothing, which means not wanted
 unfoldable pub badOutputs : ℕ → ℕ → ℕ → ℕ → Bool
 badOutputs n dof residuals cells = not (eqb residuals n) || (not (eqb cells 0) && not (eqb cells (dof * n)))
 
--- the residuals, and the Jacobian J(k,c), match k's number c; one that is not wanted stays as it is
-abbrev pub residuals : List Float → List Float → List Float
-residuals x ms = tab (matchCount ms) (residualAt x ms)
-
+-- the Jacobian J(k,c), match k's number c; one that is not wanted stays as it is
 unfoldable pub jacobianOf : ℕ → List Float → List Float → List Float → List Float
 jacobianOf dof x ms old = cond (eqb (length old) 0) old (grid (matchCount ms) dof (rowAt x ms))
 
@@ -37,10 +31,6 @@ Linearized dof ms x number r j r′ j′ =
     Answered {A = List Float × List Float} (linearizeRefusal dof ms x r j) number (r, j) (r′, j′) (residuals x ms, jacobianOf dof x ms j)
 
 -- ---- laws
--- a list of n numbers that is filled from the front
-pub first-all : (n : ℕ) (l : List Float) (f : ℕ → Float) → length l ≡ n → First n l f → l ≡ tab n f
-first-all n l f e h = ext-getD nan l (tab n f) (e ∙ sym (length-tab n f)) (λ k m. let w : k < n = omega arith in h k w ∙ sym (getD-tab n f k w))
-
 -- what the call may rely on where the outputs are not misshapen
 pub good-outputs : (n dof residuals cells : ℕ) → badOutputs n dof residuals cells ≡ false → (residuals ≡ n) × ((cells ≡ 0 → ⊥) → cells ≡ dof * n)
 unfolding badOutputs

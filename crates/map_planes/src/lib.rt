@@ -8,11 +8,11 @@ ghost use Rattle.derivative.specs.Action.{actionSize};
 ghost use Rattle.terms.specs.Terms.{addAll};
 ghost use Rattle.normal_blocks.specs.Map.{lookup, exceeds};
 ghost use Rattle.normal_blocks.specs.Target.{hessianAt, gradientAt};
-ghost use Rattle.match_sums.specs.Groups.{matchCount, listCost, listBlock, listVector};
+ghost use Rattle.match_sums.specs.Groups.{listCost, listBlock, listVector};
 ghost use Rattle.call_lists.specs.Accumulated.{Accumulated};
 ghost use Rattle.map_planes.specs.Calls.{badMatches, listReasons, matchesRefusal};
 ghost use Rattle.map_planes.specs.Accumulate.{matchesCall};
-ghost use Rattle.map_planes.specs.Linearize.{badOutputs, residuals, Linearized};
+ghost use Rattle.map_planes.specs.Linearize.{badOutputs, Linearized};
 use derivative::ACTION;
 use derivative::MOST_DOF;
 use map_plane::MATCH;
@@ -140,19 +140,6 @@ fn bad_outputs(n: usize, width: usize, residuals: usize, cells: usize) -> bool
     cells != width * n
 }
 
-// The residual of each match.
-fn write_residuals(list: &[f64], x: &[f64], residual: &mut [f64])
-    requires { ⌜ (length (now x) ≡ actionSize) × (length (now residual) ≡ matchCount (now list)) ⌝ }
-    ensures { λ _. ⌜ now (residual .exit) ≡ residuals (now (x .entry)) (now (list .entry)) ⌝ }
-{
-    let n = list.len() / MATCH;
-    let mut k = 0;
-    while k < n {
-        residual[k] = match_rows::residual_at(list, k, x);
-        k += 1;
-    }
-}
-
 // The host's call: residuals, and the Jacobian by columns unless it is empty, which means not wanted. The number of the reason to refuse, or 0.
 pub fn linearize(
     dof: u32,
@@ -172,10 +159,10 @@ pub fn linearize(
     if why != 0 {
         return why;
     }
-    write_residuals(matches, action, residual);
     if jacobian.len() == 0 {
+        match_columns::write_residuals(matches, action, residual);
         return 0;
     }
-    match_columns::jacobian(matches, action, width, jacobian);
+    match_columns::jacobian(matches, action, width, residual, jacobian);
     0
 }

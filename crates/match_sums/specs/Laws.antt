@@ -1,11 +1,9 @@
 -- Laws of numbers that are raised one after the other, and of sums by groups. Assumes nothing.
 use Prim.Native.Nat.{ℕ, _+_, _*_, _-_, _<_, _≤_}
 use mathlib.Core.Bool.{Bool, true, false, cond}
-use native.Mathlib.Numerals.{add-one}
-use native.Mathlib.Nat.{eq-or-lt-of-le, le-of-suc-le-suc, not-suc-le-zero, zero-add, add-assoc}
+use native.Mathlib.Nat.{not-suc-le-zero, zero-add, add-assoc}
 use native.Mathlib.Omega.{arith}
 use mathlib.Core.Path.{_≡_, refl, sym, ap, _∙_}
-use mathlib.Core.Logic.{⊎-elim}
 use mathlib.Core.List.{List}
 use lib.Dec.{leb}
 use lib.ListN.{length, set, length-set}
@@ -13,15 +11,10 @@ use lib.Seq.{getD-set-same, getD-set-other}
 use lib.Ieee.{Float, nan}
 use borrow.Author.Tests.{leb-true, leb-false}
 use Rattle.sums.specs.Sum.{_⊕_, _⊗_, zeroF, sumFrom}
-use Rattle.sums.specs.Laws.{sumFrom-more, sumFrom-same, sumFrom-parts}
+use Rattle.sums.specs.Laws.{sumFrom-more, sumFrom-same, sumFrom-parts, up-to}
 use Rattle.lists.specs.Part.{_!_}
 use Rattle.match_sums.specs.Groups.{GROUP, groups, groupSize, groupSum, byGroups}
 use Rattle.match_sums.specs.Cells.{Raised, Upper, Added, Summed, cell, squares, slants}
-
--- a number below c + 1 is c or below c
-up-to : {P : ℕ → Type 0} (c : ℕ) → P c → ((k : ℕ) → k < c → P k) → (k : ℕ) → k < c + 1 → P k
-up-to {P} c here before k h =
-    ⊎-elim (λ (e : k ≡ c). rw e here) (λ (l : k < c). before k l) (eq-or-lt-of-le (le-of-suc-le-suc (rw add-one at h)))
 
 -- ---- raised: before the first turn, and after one more
 pub raised-none : (from : ℕ) (f : ℕ → Float) (h : List Float) → Raised from 0 f h h

@@ -1,17 +1,16 @@
 -- The parts of a batch of frames, side by side in one list: entry e of the batch's k-th frame is number e * BATCH + k. Definitions, then their
 -- laws. Assumes nothing.
 use mathlib.Core.Path.{_≡_, refl, sym, ap, _∙_}
-use mathlib.Core.Logic.{⊎-elim}
 use mathlib.Core.List.{List}
 use Prim.Native.Nat.{ℕ, zero, suc, _+_, _*_, _%_, _<_}
 use native.Mathlib.Numerals.{add-one}
-use native.Mathlib.Nat.{eq-or-lt-of-le, le-of-suc-le-suc, not-suc-le-zero, add-zero, add-suc, add-comm}
+use native.Mathlib.Nat.{not-suc-le-zero, add-zero, add-suc, add-comm}
 use native.Mathlib.Omega.{arith}
 use lib.ListN.{length, set, length-set}
 use lib.Seq.{getD-set-same, getD-set-other}
 use lib.Ieee.{Float, nan}
 use Rattle.sums.specs.Sum.{tab, off, plus}
-use Rattle.sums.specs.Laws.{tab-same, off-add}
+use Rattle.sums.specs.Laws.{tab-same, off-add, up-to}
 use Rattle.lists.specs.Part.{_!_}
 use Rattle.plane_fit.specs.Steps.{spreadUpto, spreadPart, spread-more}
 
@@ -40,11 +39,6 @@ withParts s parts zero = s
 withParts s parts (suc n) = plus 9 (withParts s parts n) (partOf parts n)
 
 -- ---- laws
--- a number below c + 1 is c or below c
-up-to : {P : ℕ → Type 0} (c : ℕ) → P c → ((k : ℕ) → k < c → P k) → (k : ℕ) → k < c + 1 → P k
-up-to {P} c here before k h =
-    ⊎-elim (λ (e : k ≡ c). rw e here) (λ (l : k < c). before k l) (eq-or-lt-of-le (le-of-suc-le-suc (rw add-one at h)))
-
 -- a part that is put in entry by entry: before the first, and after one more
 pub put-none : (k : ℕ) (part parts : List Float) → Put 0 k part parts parts
 put-none k part parts = record { here = λ e h. absurd (not-suc-le-zero h); kept = λ i h. refl; size = refl }

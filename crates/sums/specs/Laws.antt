@@ -1,15 +1,21 @@
 -- Laws of sums, tables and grids, over the length. Assumes nothing.
 use Prim.Native.Nat.{ℕ, zero, suc, _+_, _*_, _<_}
 use native.Mathlib.Numerals.{add-one}
-use native.Mathlib.Nat.{le-of-suc-le-suc, not-suc-le-zero, zero-mul, zero-add, add-zero, add-suc, suc-mul, mul-comm, mul-le-mul-right}
+use native.Mathlib.Nat.{eq-or-lt-of-le, le-of-suc-le-suc, not-suc-le-zero, zero-mul, zero-add, add-zero, add-suc, suc-mul, mul-comm, mul-le-mul-right}
 use native.Mathlib.Omega.{arith}
 use mathlib.Core.Path.{_≡_, refl, sym, ap, _∙_}
+use mathlib.Core.Logic.{⊎-elim}
 use mathlib.Core.List.{List, [], _∷_, _++_, append-assoc, append-nil}
 use lib.ListN.{length, getD, take, set, length-append, List·getD-append}
 use lib.Seq.{ext-getD, getD-append-add, take-suc, take-suc-set, take-all, take-length}
 use mathlib.Core.Bool.{Bool, true, false}
 use lib.Ieee.{Float, nan, inf, fin, mul, unlike, up, down}
 use Rattle.sums.specs.Sum.{_⊕_, _⊗_, sumTo, sumFrom, tab, grid, off, at, product, transpose, dot}
+
+-- a number below c + 1 is c or below c
+pub up-to : {P : ℕ → Type 0} (c : ℕ) → P c → ((k : ℕ) → k < c → P k) → (k : ℕ) → k < c + 1 → P k
+up-to {P} c here before k h =
+    ⊎-elim (λ (e : k ≡ c). rw e here) (λ (l : k < c). before k l) (eq-or-lt-of-le (le-of-suc-le-suc (rw add-one at h)))
 
 -- the sign of a product
 unlike-comm : (s t : Bool) → unlike s t ≡ unlike t s

@@ -1,4 +1,4 @@
--- `map_planes::linearize` meets its contract: the tests in their order, then residuals and, if wanted, the Jacobian. Assumes nothing.
+-- `map_planes::linearize` meets its contract: the tests in their order, then residuals alone or with the Jacobian. Assumes nothing.
 use mathlib.Core.Path.{sym, _∙_}
 use borrow.Author.Needs.{needs}
 use borrow.Author.Tests.{lt-ltb, eq-eqb, ne-eqb}
@@ -19,7 +19,7 @@ returns-2 c =
 
 write-residuals-requires : tie.Need-write-residuals-requires
 write-residuals-requires c κs =
-    let past = c .before in
+    let past = c .before .before in
     let l = past .before in
     let good = fit _ _ _ _ (sym (l .matches-refusal .ensures) ∙ past .if2 .left) in
     (good .action-size, good-outputs _ _ _ _ (sym (l .before .bad-outputs .ensures) ∙ good .fits) .0)
@@ -27,31 +27,31 @@ write-residuals-requires c κs =
 returns-3 : tie.Need-returns-3
 unfolding jacobianOf
 returns-3 c =
-    let wrote = c .before .before .before in
-    let past = wrote .before .before in
+    let wrote = c .before .before in
+    let none = wrote .before .before in
+    let past = none .before in
     let l = past .before in
     accepted (asked-is _ _ _ _ _ _ _ (l .before .bad-outputs .ensures) (l .matches-refusal .ensures) ∙ past .if2 .left)
-    (rw (wrote .write-residuals .ensures, eq-eqb _ _ (c .if3 .taken)))
+    (rw (wrote .write-residuals .ensures, eq-eqb _ _ (none .if3 .taken)))
 
 jacobian-requires : tie.Need-jacobian-requires
 jacobian-requires c κs =
-    let some = c .before in
-    let past = some .before .before .before .before .before in
+    let some = c .before .before in
+    let past = some .before in
     let l = past .before in
     let good = fit _ _ _ _ (sym (l .matches-refusal .ensures) ∙ past .if2 .left) in
     let shape = good-outputs _ _ _ _ (sym (l .before .bad-outputs .ensures) ∙ good .fits) in
-    (good .action-size, good .narrow, shape .1 (some .if3 .left))
+    (good .action-size, good .narrow, shape .0, shape .1 (some .if3 .left))
 
 returns-4 : tie.Need-returns-4
 unfolding jacobianOf
 returns-4 c =
-    let filled = c .before .before in
-    let some = filled .before .before in
-    let wrote = some .before .before .before in
-    let past = wrote .before .before in
+    let filled = c .before .before .before .before in
+    let some = filled .before .before .before in
+    let past = some .before in
     let l = past .before in
     accepted (asked-is _ _ _ _ _ _ _ (l .before .bad-outputs .ensures) (l .matches-refusal .ensures) ∙ past .if2 .left)
-    (rw (wrote .write-residuals .ensures, filled .jacobian .ensures, ne-eqb _ _ (some .if3 .left)))
+    (rw (filled .jacobian .ensures .0, filled .jacobian .ensures .1, ne-eqb _ _ (some .if3 .left)))
 
 pub linearize-spec : {M : Type 1} → statement M
 linearize-spec =

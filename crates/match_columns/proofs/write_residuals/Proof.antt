@@ -1,20 +1,19 @@
--- `map_planes::write_residuals` meets its contract: match after match. Assumes nothing.
-use Prim.Native.Nat.{_≤_, _-_}
+-- `match_columns::write_residuals` meets its contract: match after match. Assumes nothing.
+use Prim.Native.Nat.{_≤_, _-_, _/_}
 use mathlib.Core.Path.{_≡_}
-use native.Mathlib.Nat.{not-suc-le-zero}
 use native.Mathlib.Omega.{arith}
 use lib.ListN.{length}
-use Rattle.sums.specs.Fill.{First, first-more}
+use Rattle.sums.specs.Fill.{First, first-none, first-more}
 use Rattle.match_rows.specs.Row.{residualAt}
-use Rattle.match_sums.specs.Groups.{matchCount}
-use Rattle.map_planes.specs.Linearize.{first-all}
+use Rattle.map_plane.specs.Match.{MATCH}
+use Rattle.match_columns.specs.Residuals.{first-all}
 use borrow.Author.Needs.{needs}
-use Rattle.map_planes.proofs.write_residuals.Statement.{statement}
-use Rattle.map_planes.proofs.write_residuals.Tie as tie
+use Rattle.match_columns.proofs.write_residuals.Statement.{statement}
+use Rattle.match_columns.proofs.write_residuals.Tie as tie
 
 abbrev Inv-loop : tie.InvT-loop
 Inv-loop list x residual₀ n k₀ residual k =
-    (k ≤ n) × (length residual ≡ matchCount list) × First k residual (residualAt x list)
+    (k ≤ n) × (length residual ≡ length list / MATCH) × First k residual (residualAt x list)
 
 abbrev μ-loop : tie.MeasureT-loop
 μ-loop list x residual₀ n k₀ residual k = n - k
@@ -28,7 +27,7 @@ returns : tie.Need-returns Inv-loop μ-loop
 returns c =
     let at = c .before .loop in
     let a = c .before .before .before .before .before .args in
-    let e : at .k ≡ matchCount (a .list .now) = omega arith in
+    let e : at .k ≡ length (a .list .now) / MATCH = omega arith in
     first-all _ (at .residual) (residualAt (a .x .now) (a .list .now)) (at .inv .1) (rw e at (at .inv .2))
 
 pub write-residuals-spec : {M : Type 1} → statement M
@@ -37,7 +36,7 @@ write-residuals-spec =
     (tie.spec
     Inv-loop
     μ-loop
-    (λ c. (search needs, search needs, λ k h. absurd (not-suc-le-zero h)))
+    (λ c. (search needs, search needs, first-none (c .before .before .before .args .residual .now) _))
     (λ c κs. search needs)
     (λ c. search needs)
     (λ c. search needs)
