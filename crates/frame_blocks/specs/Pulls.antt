@@ -1,15 +1,15 @@
 -- The pulls at the frames of a batch, number after number in one array: where each stands, and what a pull that is put there leaves of the others.
 -- Assumes nothing.
 use Prim.Native.Nat.{ℕ, _+_, _*_, _<_}
-use native.Mathlib.Nat.{eq-or-lt-of-le, le-of-suc-le-suc, not-suc-le-zero}
-use native.Mathlib.Numerals.{add-one}
+use native.Mathlib.Nat.{not-suc-le-zero}
 use native.Mathlib.Omega.{arith}
 use mathlib.Core.Path.{_≡_, refl, _∙_}
-use mathlib.Core.Logic.{_≢_, ⊎-elim}
+use mathlib.Core.Logic.{_≢_}
 use mathlib.Core.List.{List, [], _∷_}
 use lib.ListN.{length, getD, set, length-set}
 use lib.Seq.{getD-set-same, getD-set-other}
 use lib.Ieee.{Float, nan}
+use Rattle.sums.specs.Laws.{up-to}
 use Rattle.frame_normal.specs.Normal.{normalIn}
 use Rattle.plane_fit.specs.Fit.{frameAt, actionAt}
 use Rattle.frame_cost.specs.Cost.{pullOf, scatterOn, frameAlong}
@@ -104,7 +104,6 @@ module _ (frames actions n : List Float) (offset weight : Float) (from : ℕ) wh
   unfolding pullAt scatterOn
   pulled-more {k} {cells} {cells′} {p} l is put before = rw put (record {
     long = simp length-set (before .long);
-    pulls = λ j m.
-        ⊎-elim (λ (e : j ≡ k). rw e (with-same cells k p l _ (before .long) (rw is refl)))
-        (λ (b : j < k). with-other cells k p l j (omega arith) (λ z. omega arith) ∙ before .pulls j b) (eq-or-lt-of-le (le-of-suc-le-suc (rw add-one at m)));
+    pulls = up-to {P = λ j. pullIn (withPull cells k p) j ≡ pullAt frames actions n offset weight (from + j)} k (with-same cells k p l _ (before .long) (rw is refl))
+        (λ j b. with-other cells k p l j (omega arith) (λ z. omega arith) ∙ before .pulls j b);
   })
