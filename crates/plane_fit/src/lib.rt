@@ -11,7 +11,7 @@ ghost use Rattle.sums.specs.Sum.{plus, grid, product, transpose};
 ghost use Rattle.derivative.specs.Action.{actionSize};
 ghost use Rattle.point_moments.specs.Scatter.{CENTRED};
 ghost use Rattle.plane_fit.specs.Records.{recordOf};
-ghost use Rattle.plane_fit.specs.Parts.{BATCH, partOf, Put, Held, withParts};
+ghost use Rattle.plane_fit.specs.Parts.{BATCH, COLUMNS, partOf, Put, Held, withParts};
 ghost use Rattle.plane_fit.specs.Fit.{Shaped, centre, turned, spread, fitMean, scatterAbout, fitList};
 ghost use Rattle.plane_fit.specs.Calls.{badRecords, badFrames, badFixed, badCount, badActions, fitRefusal};
 ghost use Rattle.plane_fit.specs.Steps.{withSet, weighed, difference, spreadUpto, meanOf};
@@ -156,78 +156,84 @@ impl Scatter {
 // How many frames' parts are worked out before they are added.
 const BATCH: usize = 8;
 
-// Puts a part into the parts of a batch as that of its k-th frame.
-fn put_part(parts: &mut [f64; 72], k: usize, part: [f64; 9])
-    requires { ⌜ (k < BATCH) × (length (now parts) ≡ 72) ⌝ }
-    ensures { λ _. ⌜ Put 9 k part (now (parts .entry)) (now (parts .exit)) ⌝ }
+// Puts a column of a part into those of a batch as that of its k-th frame.
+fn put_column(cells: &mut [f64; 24], k: usize, column: [f64; 3])
+    requires { ⌜ (k < BATCH) × (length (now cells) ≡ COLUMNS) ⌝ }
+    ensures { λ _. ⌜ Put 3 k column (now (cells .entry)) (now (cells .exit)) ⌝ }
 {
-    for e in 0..9 {
-        parts[e * BATCH + k] = part[e];
+    for e in 0..3 {
+        cells[e * BATCH + k] = column[e];
     }
 }
 
-// The part of the k-th frame of a batch.
-fn part_at(parts: &[f64; 72], k: usize) -> [f64; 9]
+// The part of the k-th frame of a batch, of its three columns.
+fn part_at(a: &[f64; 24], b: &[f64; 24], c: &[f64; 24], k: usize) -> [f64; 9]
     requires { ⌜ k < BATCH ⌝ }
-    ensures { λ r. ⌜ r ≡ partOf (now (parts .entry)) k ⌝ }
+    ensures { λ r. ⌜ r ≡ partOf (now (a .entry)) (now (b .entry)) (now (c .entry)) k ⌝ }
 {
     [
-        parts[k],
-        parts[k + BATCH],
-        parts[k + 2 * BATCH],
-        parts[k + 3 * BATCH],
-        parts[k + 4 * BATCH],
-        parts[k + 5 * BATCH],
-        parts[k + 6 * BATCH],
-        parts[k + 7 * BATCH],
-        parts[k + 8 * BATCH],
+        a[k],
+        a[k + BATCH],
+        a[k + 2 * BATCH],
+        b[k],
+        b[k + BATCH],
+        b[k + 2 * BATCH],
+        c[k],
+        c[k + BATCH],
+        c[k + 2 * BATCH],
     ]
 }
 
-// The parts of a batch of frames from frame `from` on, entry after entry: entry e of the batch's k-th frame is number e * BATCH + k, so that
-// the loop's stores are neighbours and the compiler works out two frames at a time.
+// The parts of a batch of frames from frame `from` on, each column into cells of its own, entry after entry: entry e of the batch's k-th frame is
+// number e * BATCH + k, so that the loop's stores are neighbours and the compiler works out two frames at a time.
 fn fill_parts(
     frames: &[f64],
     actions: &[f64],
     from: usize,
     size: usize,
     mean: [f64; 3],
-    parts: &mut [f64; 72],
+    a: &mut [f64; 24],
+    b: &mut [f64; 24],
+    c: &mut [f64; 24],
 )
-    requires { ⌜ (CENTRED * (from + size) ≤ length (now frames)) × (actionSize * (from + size) ≤ length (now actions)) × (size ≤ BATCH) × (length (now parts) ≡ 72) ⌝ }
-    ensures { λ _. ⌜ Held (now (frames .entry)) (now (actions .entry)) mean from size (now (parts .exit)) ⌝ }
+    requires { ⌜ (CENTRED * (from + size) ≤ length (now frames)) × (actionSize * (from + size) ≤ length (now actions)) × (size ≤ BATCH) × (length (now a) ≡ COLUMNS) × (length (now b) ≡ COLUMNS) × (length (now c) ≡ COLUMNS) ⌝ }
+    ensures { λ _. ⌜ Held (now (frames .entry)) (now (actions .entry)) mean from size (now (a .exit)) (now (b .exit)) (now (c .exit)) ⌝ }
 {
     for k in 0..size {
         let f = Centred::from_list(whole_at(frames, CENTRED, from + k));
         let part = spread_of(whole_at(actions, ACTION, from + k), f, mean);
-        put_part(parts, k, part);
+        put_column(a, k, [part[0], part[1], part[2]]);
+        put_column(b, k, [part[3], part[4], part[5]]);
+        put_column(c, k, [part[6], part[7], part[8]]);
     }
 }
 
 // A scatter with the parts of a batch.
-fn with_parts(s: Scatter, parts: &[f64; 72], size: usize) -> Scatter
+fn with_parts(s: Scatter, a: &[f64; 24], b: &[f64; 24], c: &[f64; 24], size: usize) -> Scatter
     requires { ⌜ size ≤ BATCH ⌝ }
-    ensures { λ r. ⌜ r .entries ≡ withParts (s .entries) (now (parts .entry)) size ⌝ }
+    ensures { λ r. ⌜ r .entries ≡ withParts (s .entries) (now (a .entry)) (now (b .entry)) (now (c .entry)) size ⌝ }
 {
     let mut r = s;
     for k in 0..size {
-        r = r.with_part(part_at(parts, k));
+        r = r.with_part(part_at(a, b, c, k));
     }
     r
 }
 
-// The scatter of the first `count` frames about `mean`.
+// The scatter of the first `count` frames about `mean`. Three small arrays are cleared faster than a large one.
 fn scatter_of(frames: &[f64], actions: &[f64], count: usize, mean: [f64; 3]) -> Scatter
     requires { ⌜ (CENTRED * count ≤ length (now frames)) × (actionSize * count ≤ length (now actions)) ⌝ }
     ensures { λ r. ⌜ r .entries ≡ spreadUpto (now (frames .entry)) (now (actions .entry)) mean count ⌝ }
 {
     let mut s = Scatter { entries: [0.0; 9] };
-    let mut parts = [0.0; 72];
+    let mut a = [0.0; 24];
+    let mut b = [0.0; 24];
+    let mut c = [0.0; 24];
     let mut from = 0;
     while from < count {
         let size = lists::batch_size(count, from, BATCH);
-        fill_parts(frames, actions, from, size, mean, &mut parts);
-        s = with_parts(s, &parts, size);
+        fill_parts(frames, actions, from, size, mean, &mut a, &mut b, &mut c);
+        s = with_parts(s, &a, &b, &c, size);
         from = from + size;
     }
     s

@@ -11,13 +11,13 @@ use Rattle.plane_fit.proofs.fill_parts.Statement.{statement}
 use Rattle.plane_fit.proofs.fill_parts.Tie as tie
 
 abbrev Inv-loop : tie.InvT-loop
-Inv-loop frames actions from size mean parts₀ k₀ parts k = (k ≤ size) × Held frames actions mean from k parts
+Inv-loop frames actions from size mean a₀ b₀ c₀ k₀ a b c k = (k ≤ size) × Held frames actions mean from k a b c
 
 abbrev μ-loop : tie.MeasureT-loop
-μ-loop frames actions from size mean parts₀ k₀ parts k = size - k
+μ-loop frames actions from size mean a₀ b₀ c₀ k₀ a b c k = size - k
 
 loop-holds : tie.Need-loop-holds Inv-loop μ-loop
-loop-holds c = (search needs, held-none _ _ _ _ _ (search needs))
+loop-holds c = (search needs, held-none _ _ _ _ _ _ _ (search needs) (search needs) (search needs))
 
 from-list-requires : tie.Need-from-list-requires Inv-loop μ-loop
 from-list-requires c κs =
@@ -33,12 +33,14 @@ spread-of-requires c κs =
 
 loop-again : tie.Need-loop-again Inv-loop μ-loop
 loop-again c =
-    let made = c .before .before in
+    let third = c .before .before in
+    let second = third .before .before in
+    let made = second .before .before in
     let r = made .before in
     let at = r .before .before .before .before in
-    let a = at .before .before .before .args in
-    let part = part-is _ _ _ _ _ (a .from + at .loop .k) (r .whole-at2 .ensures) (r .before .from-list .ensures ∙ ap centredOf (r .before .before .whole-at .ensures)) in
-    (search needs, held-more _ _ _ (a .from) (at .loop .k) _ (at .loop .parts) _ (omega arith) (made .spread-of .ensures ∙ part) (c .put-part .ensures) (at .loop .inv .1))
+    let s = at .before .before .before .args in
+    let part = part-is _ _ _ _ _ (s .from + at .loop .k) (r .whole-at2 .ensures) (r .before .from-list .ensures ∙ ap centredOf (r .before .before .whole-at .ensures)) in
+    (search needs, held-more _ _ _ (s .from) (at .loop .k) _ (at .loop .a) _ (at .loop .b) _ (at .loop .c) _ (omega arith) (made .spread-of .ensures ∙ part) (second .put-column .ensures) (third .put-column2 .ensures) (c .put-column3 .ensures) (at .loop .inv .1))
 
 returns : tie.Need-returns Inv-loop μ-loop
 returns c =
@@ -58,6 +60,17 @@ fill-parts-spec =
     (λ c. omega arith)
     (λ c κs. omega arith)
     spread-of-requires
+    (λ c. search needs)
+    (λ c. search needs)
+    (λ c. search needs)
+    (λ c κs. search needs)
+    (λ c. search needs)
+    (λ c. search needs)
+    (λ c. search needs)
+    (λ c κs. search needs)
+    (λ c. search needs)
+    (λ c. search needs)
+    (λ c. search needs)
     (λ c κs. search needs)
     (λ c. omega arith)
     (λ c. omega arith)

@@ -9,10 +9,10 @@ use Rattle.plane_fit.proofs.with_parts.Statement.{statement}
 use Rattle.plane_fit.proofs.with_parts.Tie as tie
 
 abbrev Inv-loop : tie.InvT-loop
-Inv-loop parts size r₀ k₀ r k = (k ≤ size) × (r .entries ≡ withParts (r₀ .entries) parts k)
+Inv-loop a b c size r₀ k₀ r k = (k ≤ size) × (r .entries ≡ withParts (r₀ .entries) a b c k)
 
 abbrev μ-loop : tie.MeasureT-loop
-μ-loop parts size r₀ k₀ r k = size - k
+μ-loop a b c size r₀ k₀ r k = size - k
 
 loop-again : tie.Need-loop-again Inv-loop μ-loop
 loop-again c =
