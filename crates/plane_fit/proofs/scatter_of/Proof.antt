@@ -27,7 +27,8 @@ fill-parts-requires c κs =
 with-parts-requires : tie.Need-with-parts-requires Inv-loop μ-loop
 with-parts-requires c κs =
     let b = c .before .before .before .before .before .before .before in
-    batch-fits (b .batch-size .ensures) (b .before .loop-test .taken) (omega arith) .1
+    let f = batch-fits (b .batch-size .ensures) (b .before .loop-test .taken) (omega arith) in
+    omega arith
 
 add-from : tie.Need-add-from Inv-loop μ-loop
 add-from c =
