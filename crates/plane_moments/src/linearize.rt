@@ -99,8 +99,8 @@ fn wanted(dof: u32, cells: usize) -> usize
     if cells == 0 { 0 } else { dof as usize }
 }
 
-// The host's call. The number of the reason to refuse, or 0.
-pub fn linearize(
+// The residuals of a call that is not refused, and its Jacobian if it is wanted: under the fitted plane, or +0 everywhere where there is none.
+fn write_fitted(
     dof: u32,
     frames: &[f64],
     fixed: &[f64],
@@ -109,28 +109,15 @@ pub fn linearize(
     decompositions: &[u64],
     residual: &mut [f64],
     jacobian: &mut [f64],
-) -> u32
-    ensures { λ r. ⌜ Linearizes dof (now (frames .entry)) (now (fixed .entry)) sigma (now (actions .entry)) (now (decompositions .entry)) (now (residual .entry)) (now (jacobian .entry)) r (now (residual .exit)) (now (jacobian .exit)) ⌝ }
+)
+    requires { ⌜ linearizeRefusal dof (now frames) (now fixed) sigma (now actions) (length (now decompositions)) (length (now residual)) (length (now jacobian)) ≡ 0 ⌝ }
+    ensures { λ _. ⌜ Linearizes dof (now (frames .entry)) (now (fixed .entry)) sigma (now (actions .entry)) (now (decompositions .entry)) (now (residual .entry)) (now (jacobian .entry)) 0 (now (residual .exit)) (now (jacobian .exit)) ⌝ }
 {
-    let cells = jacobian.len();
-    let refusal = refusal(
-        dof,
-        frames,
-        fixed,
-        sigma,
-        actions,
-        decompositions.len(),
-        residual.len(),
-        cells,
-    );
-    if refusal != 0 {
-        return refusal;
-    }
+    let width = wanted(dof, jacobian.len());
     frame_rows::clear(jacobian);
     let mean = plane_fit::fit_mean(frames, fixed, actions);
     match plane_fit::axis::smallest_axis(frame_rows::decomposition_at(decompositions, 0), mean) {
         Fit::Plane(a, b, c, offset) => {
-            let width = wanted(dof, cells);
             frame_rows::write_all(
                 frames,
                 fixed,
@@ -148,5 +135,37 @@ pub fn linearize(
             frame_rows::clear(residual);
         }
     }
+}
+
+// The host's call. The number of the reason to refuse, or 0.
+pub fn linearize(
+    dof: u32,
+    frames: &[f64],
+    fixed: &[f64],
+    sigma: f64,
+    actions: &[f64],
+    decompositions: &[u64],
+    residual: &mut [f64],
+    jacobian: &mut [f64],
+) -> u32
+    ensures { λ r. ⌜ Linearizes dof (now (frames .entry)) (now (fixed .entry)) sigma (now (actions .entry)) (now (decompositions .entry)) (now (residual .entry)) (now (jacobian .entry)) r (now (residual .exit)) (now (jacobian .exit)) ⌝ }
+{
+    let patterns = decompositions.len();
+    let rows = residual.len();
+    let cells = jacobian.len();
+    let why = refusal(dof, frames, fixed, sigma, actions, patterns, rows, cells);
+    if why != 0 {
+        return why;
+    }
+    write_fitted(
+        dof,
+        frames,
+        fixed,
+        sigma,
+        actions,
+        decompositions,
+        residual,
+        jacobian,
+    );
     0
 }
