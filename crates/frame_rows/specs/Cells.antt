@@ -1,21 +1,21 @@
--- Where the blocks of the Jacobian lie, and how it fills up with them, frame after frame, over +0. Assumes nothing.
-use Prim.Native.Nat.{ℕ, zero, suc, _+_, _*_, _/_, _%_, _<_, _≤_}
-use native.Mathlib.Nat.{add-mul, add-zero, add-suc, add-mul-div-right, mul-add-mod-self-right, div-eq-of-lt, mod-eq-of-lt, add-comm, mul-le-mul-right, zero-add, suc-mul}
-use native.Mathlib.Numerals.{add-one}
+-- Where the blocks of the Jacobian lie, and how it fills up with them, batch after batch, over +0. Assumes nothing.
+use Prim.Native.Nat.{ℕ, zero, suc, _+_, _-_, _*_, _/_, _%_, _<_, _≤_}
+use native.Mathlib.Nat.{add-mul, mul-add, mul-assoc, mul-zero, add-mul-div-right, mul-add-mod-self-right, div-eq-of-lt, mod-eq-of-lt, mod-lt, div-add-mod', div-lt-iff-lt-mul, add-comm, mul-le-mul-right, zero-add, suc-mul, not-suc-le-zero}
 use native.Mathlib.Omega.{arith}
 use mathlib.Core.Path.{_≡_, refl, sym, ap, ap₂, _∙_}
-use mathlib.Core.List.{List, _++_}
-use lib.Dec.{eqb}
-use lib.ListN.{length, getD, drop, replicate, length-replicate, getD-replicate}
-use lib.Seq.{getD-append-add, getD-drop}
+use mathlib.Core.List.{List}
+use mathlib.Core.Bool.{Bool, true, false}
+use lib.Dec.{eqb, ltb}
+use lib.ListN.{length, replicate, length-replicate, getD-replicate}
+use lib.Seq.{ext-getD}
 use lib.Ieee.{Float, nan}
-use borrow.Author.Tests.{eq-eqb, ne-eqb}
+use borrow.Author.Tests.{eq-eqb, ne-eqb, eqb-true, eqb-false, ltb-true, ltb-false}
 use Rattle.sums.specs.Sum.{zeroF, grid}
-use Rattle.sums.specs.Laws.{length-grid, cell}
-use Rattle.sums.specs.Fill.{written, Columns, columns-more, column-ends}
+use Rattle.sums.specs.Laws.{length-grid, at-grid, off-add, cell}
+use Rattle.sums.specs.Fill.{written, length-written, written-before, written-inside, written-after, column-ends}
+use Rattle.lists.specs.Part.{_!_}
 use Rattle.frame_rows.specs.Rows.{blockCell, jacobianCell}
-use Rattle.frame_rows.specs.Steps.{putColumns}
-use Rattle.frame_rows.specs.Laws.{written-within}
+use Rattle.frame_rows.specs.Steps.{putColumns, putBlocks}
 
 -- column f·dof + c is column c of frame f
 module _ (dof f c : ℕ) (inside : c < dof) where
@@ -39,45 +39,176 @@ module _ (dof f c : ℕ) (inside : c < dof) where
     unfolding jacobianCell
     beside-is row h = rw (column-frame, ne-eqb (row / 4) f h)
 
--- ---- the loop over the frames
+-- column c of the k-th block of a batch lies where that of its frame does
+pub block-place : (from k dof c rows : ℕ) → (from * dof + c) * rows + from * 4 + k * (dof * rows + 4) ≡ ((from + k) * dof + c) * rows + (from + k) * 4
+block-place from k dof c rows =
+    let a = add-mul (from * dof) c rows in
+    let b : ((from + k) * dof + c) * rows ≡ from * dof * rows + k * dof * rows + c * rows = rw (add-mul from k dof, add-mul (from * dof + k * dof) c rows, add-mul (from * dof) (k * dof) rows) in
+    let d : k * (dof * rows + 4) ≡ k * dof * rows + k * 4 = rw (mul-add k (dof * rows) 4, mul-assoc k dof rows) in
+    omega (arith, a, b, d)
 
--- a column that is not filled yet is +0
-unfilled : (rows cols : ℕ) (g : ℕ → ℕ → Float) (l out : List Float) (col : ℕ) → l ≡ replicate (cols * rows) zeroF → Columns rows cols g l out col → col < cols → (r : ℕ) → r < rows → getD out (col * rows + r) nan ≡ zeroF
-unfilled rows cols g l out col z p h r j =
-    let size = length-grid rows col g in
-    let at : getD (grid rows col g ++ drop (col * rows) l) (col * rows + r) nan ≡ getD l (col * rows + r) nan = rw size at (getD-append-add (grid rows col g) (drop (col * rows) l) r nan) ∙ getD-drop (col * rows) l r nan in
-    ap (λ (m : List Float). getD m (col * rows + r) nan) (p .filled) ∙ at ∙ ap (λ (m : List Float). getD m (col * rows + r) nan) z ∙ getD-replicate (cols * rows) (col * rows + r) zeroF nan (cell rows cols r col j h)
+-- ---- the loop over the batches
 
-module _ (frames actions : List Float) (ds : List ℕ) (n : List Float) (info : Float) (count dof : ℕ) (l : List Float) (clear : l ≡ replicate (count * dof * ((count + 1) * 4)) zeroF) where
-  abbrev Filled : List Float → ℕ → Type 0
-  Filled out col = Columns ((count + 1) * 4) (count * dof) (jacobianCell frames actions ds n info dof) l out col
-
-  whole : length l ≡ count * dof * ((count + 1) * 4)
-  whole = ap length clear ∙ length-replicate _ zeroF
+module _ (frames actions : List Float) (ds : List ℕ) (n : List Float) (info : Float) (count dof : ℕ) where
+  -- The Jacobian on the way: a cell that no block's column has left to fill is what it shall be, those beside the blocks too.
+  pub record Partly (left : ℕ → ℕ → Type 0) (out : List Float) : Type 0 where
+    pub size : length out ≡ count * dof * ((count + 1) * 4)
+    pub cells : (g d row : ℕ) → g < count → d < dof → row < (count + 1) * 4 → (row / 4 ≡ g → left g d → ⊥) → out ! ((g * dof + d) * ((count + 1) * 4) + row) ≡ jacobianCell frames actions ds n info dof row (g * dof + d)
 
   below : (f c : ℕ) → f < count → c < dof → f * dof + c < count * dof
   below f c h j = omega (arith, mul-le-mul-right dof h, suc-mul f dof)
 
-  -- one column of frame f's block
-  one : (out : List Float) (f c : ℕ) → f < count → c < dof → Filled out (f * dof + c) → Filled (written out (f * dof * ((count + 1) * 4) + f * 4 + c * ((count + 1) * 4)) 4 (blockCell frames actions ds n info f c)) (f * dof + c + 1)
-  one out f c h j p =
-      let rows = (count + 1) * 4 in
-      let col = f * dof + c in
-      let cells = jacobianCell frames actions ds n info dof in
-      let zero-at = unfilled rows (count * dof) cells l out col clear p (below f c h j) in
-      let place : f * dof * rows + f * 4 + c * rows ≡ col * rows + f * 4 = omega (arith, add-mul (f * dof) c rows) in
-      let ends = column-ends rows (count * dof) col (below f c h j) in
-      columns-more rows (count * dof) cells l out _ col whole (below f c h j) p
-      (ap (λ i. written out i 4 (blockCell frames actions ds n info f c)) place
-      ∙ written-within out (col * rows) rows (f * 4) 4 (blockCell frames actions ds n info f c) (λ r. cells r col) (omega arith) (omega (arith, ends, whole, p .size))
-      (λ r q. zero-at r (omega arith) ∙ sym (beside-is dof f c j frames actions ds n info r (λ e. omega arith)))
-      (λ k q. sym (block-is dof f c j frames actions ds n info k q))
-      (λ r q s. zero-at r s ∙ sym (beside-is dof f c j frames actions ds n info r (λ e. omega arith))))
+  -- no fewer columns left
+  pub partly-weaken : {left left′ : ℕ → ℕ → Type 0} {out : List Float} → ((g d : ℕ) → d < dof → left g d → left′ g d) → Partly left out → Partly left′ out
+  partly-weaken more p = record { size = p .size; cells = λ g d row a b c free. p .cells g d row a b c (λ e l. free e (more g d b l)) }
 
-  -- and the first c of them
-  pub block-filled : (out : List Float) (f c : ℕ) → f < count → c ≤ dof → Filled out (f * dof) → Filled (putColumns out (f * dof * ((count + 1) * 4) + f * 4) ((count + 1) * 4) (λ c k. blockCell frames actions ds n info f c k) c) (f * dof + c)
-  unfolding putColumns
-  block-filled out f zero h j p = rw add-zero p
-  block-filled out f (suc c) h j p =
-      let e : f * dof + c + 1 ≡ f * dof + suc c = omega arith in
-      rw e at (one (putColumns out (f * dof * ((count + 1) * 4) + f * 4) ((count + 1) * 4) (λ c k. blockCell frames actions ds n info f c k) c) f c h (omega arith) (block-filled out f c h (omega arith) p))
+  -- one more column of frame f's block
+  module _ (left left′ : ℕ → ℕ → Type 0) (out : List Float) (f c : ℕ) (h : f < count) (j : c < dof) (more : (g d : ℕ) → left g d → ((g ≡ f) × (d ≡ c) → ⊥) → left′ g d) (p : Partly left out) where
+    abbrev rows : ℕ
+    rows = (count + 1) * 4
+
+    abbrev at : ℕ
+    at = (f * dof + c) * ((count + 1) * 4) + f * 4
+
+    abbrev out′ : List Float
+    out′ = written out ((f * dof + c) * ((count + 1) * 4) + f * 4) 4 (blockCell frames actions ds n info f c)
+
+    fits : at + 4 ≤ length out
+    fits = omega (arith, p .size, h, column-ends rows (count * dof) (f * dof + c) (below f c h j))
+
+    -- the cells before and after the four
+    before-is : (i : ℕ) → i < at → out′ ! i ≡ out ! i
+    before-is i l = written-before out at 4 _ i (omega (arith, fits)) l
+
+    after-is : (i : ℕ) → at + 4 ≤ i → out′ ! i ≡ out ! i
+    after-is i l =
+        let e : i ≡ at + 4 + (i - (at + 4)) = omega arith in
+        ap (λ q. out′ ! q) e ∙ written-after out at 4 _ (i - (at + 4)) (omega (arith, fits)) ∙ ap (λ q. out ! q) (sym e)
+
+    -- a cell of another column
+    other : (col row : ℕ) → row < rows → (col ≡ f * dof + c → ⊥) → out′ ! (col * rows + row) ≡ out ! (col * rows + row)
+    other col row r ne = side (ltb col (f * dof + c)) refl
+      where
+        side : (t : Bool) → ltb col (f * dof + c) ≡ t → out′ ! (col * rows + row) ≡ out ! (col * rows + row)
+        side true e = before-is (col * rows + row) (omega (arith, cell rows (f * dof + c) row col r (ltb-true col (f * dof + c) e)))
+        side false e =
+            let x : f * dof + c ≤ col = ltb-false col (f * dof + c) e in
+            let l : f * dof + c < col = omega arith in
+            after-is (col * rows + row) (omega (arith, h, column-ends rows col (f * dof + c) l))
+
+    -- one of the same column above or below the four
+    beside : (row : ℕ) → row < rows → (row / 4 ≡ f → ⊥) → out′ ! ((f * dof + c) * rows + row) ≡ out ! ((f * dof + c) * rows + row)
+    beside row r ne = side (ltb row (f * 4)) refl
+      where
+        side : (t : Bool) → ltb row (f * 4) ≡ t → out′ ! ((f * dof + c) * rows + row) ≡ out ! ((f * dof + c) * rows + row)
+        side true e = let x : row < f * 4 = ltb-true row (f * 4) e in before-is ((f * dof + c) * rows + row) (omega arith)
+        side false e =
+            let x : f * 4 ≤ row = ltb-false row (f * 4) e in
+            let y : f * 4 + 4 ≤ row = omega arith in
+            after-is ((f * dof + c) * rows + row) (omega arith)
+
+    -- and one of the four
+    inside : (row : ℕ) → row / 4 ≡ f → out′ ! ((f * dof + c) * rows + row) ≡ jacobianCell frames actions ds n info dof row (f * dof + c)
+    inside row e =
+        let w : f * 4 + row % 4 ≡ row = omega arith in
+        let q : (f * dof + c) * rows + row ≡ at + row % 4 = omega arith in
+        ap (λ i. out′ ! i) q ∙ written-inside out at 4 _ (row % 4) (omega (arith, fits)) (omega arith) ∙ sym (block-is dof f c j frames actions ds n info (row % 4) (omega arith)) ∙ ap (λ r. jacobianCell frames actions ds n info dof r (f * dof + c)) w
+
+    cell-is : (g d row : ℕ) → g < count → d < dof → row < rows → (row / 4 ≡ g → left′ g d → ⊥) → out′ ! ((g * dof + d) * rows + row) ≡ jacobianCell frames actions ds n info dof row (g * dof + d)
+    cell-is g d row gh dh rh free = pick (eqb (g * dof + d) (f * dof + c)) refl
+      where
+        same-column : (t : Bool) → eqb (row / 4) f ≡ t → out′ ! ((f * dof + c) * rows + row) ≡ jacobianCell frames actions ds n info dof row (f * dof + c)
+        same-column true e = inside row (eqb-true (row / 4) f e)
+        same-column false e = let ne = eqb-false (row / 4) f e in beside row rh ne ∙ p .cells f c row h j rh (λ t l. ne t)
+
+        pick : (t : Bool) → eqb (g * dof + d) (f * dof + c) ≡ t → out′ ! ((g * dof + d) * rows + row) ≡ jacobianCell frames actions ds n info dof row (g * dof + d)
+        pick true e = let same = eqb-true (g * dof + d) (f * dof + c) e in rw same (same-column (eqb (row / 4) f) refl)
+        pick false e =
+            let ne = eqb-false (g * dof + d) (f * dof + c) e in
+            other (g * dof + d) row rh ne ∙ p .cells g d row gh dh rh (λ s l. free s (more g d l (λ x. ne (ap₂ (λ a b. a * dof + b) (x .0) (x .1)))))
+
+    pub partly-more : Partly left′ out′
+    partly-more = record { size = length-written out at 4 _ fits ∙ p .size; cells = cell-is }
+
+  -- what a batch has left, with the first c columns of its blocks done, and of column c that of its first k frames
+  abbrev Left : ℕ → ℕ → ℕ → ℕ → ℕ → ℕ → Type 0
+  Left from size c k g d = (from ≤ g) × (g < from + size → c ≤ d) × (g < from + k → c < d)
+
+  module _ (from size : ℕ) (within : from + size ≤ count) where
+    -- one column of the batch's blocks, frame after frame
+    column-put : (out : List Float) (c k : ℕ) → c < dof → k ≤ size → Partly (Left from size c 0) out
+        → Partly (Left from size c k) (putColumns out ((from * dof + c) * ((count + 1) * 4) + from * 4) (dof * ((count + 1) * 4) + 4) (λ k r. blockCell frames actions ds n info (from + k) c r) k)
+    unfolding putColumns
+    column-put out c zero h j p = p
+    column-put out c (suc k) h j p =
+        rw (block-place from k dof c ((count + 1) * 4)) (partly-more (Left from size c k) (Left from size c (suc k)) _ (from + k) c (omega arith) h (λ g d l ne. (l .0, l .1, step g d l ne)) (column-put out c k h (omega arith) p))
+      where
+        step : (g d : ℕ) → Left from size c k g d → ((g ≡ from + k) × (d ≡ c) → ⊥) → g < from + suc k → c < d
+        step g d l ne q = go (ltb g (from + k)) refl
+          where
+            go : (t : Bool) → ltb g (from + k) ≡ t → c < d
+            go true e = l .2 (ltb-true g (from + k) e)
+            go false e =
+                let x : from + k ≤ g = ltb-false g (from + k) e in
+                let y : g ≡ from + k = omega arith in
+                let m : c ≤ d = l .1 (omega arith) in
+                let z : d ≡ c → ⊥ = λ w. ne (y, w) in
+                omega arith
+
+    -- and column after column
+    columns-put : (out : List Float) (c : ℕ) → c ≤ dof → Partly (Left from size 0 0) out
+        → Partly (Left from size c 0) (putBlocks out from dof ((count + 1) * 4) size (λ c k r. blockCell frames actions ds n info (from + k) c r) c)
+    unfolding putBlocks
+    columns-put out zero h p = p
+    columns-put out (suc c) h p =
+        partly-weaken {left = Left from size c size} {left′ = Left from size (suc c) 0} (λ g d b l. (l .0, λ q. next (l .2 q), λ q. none (l .0) q)) (column-put _ c size (omega arith) (omega arith) (columns-put out c (omega arith) p))
+      where
+        next : {d : ℕ} → c < d → suc c ≤ d
+        next x = omega arith
+
+        none : {g e : ℕ} → from ≤ g → g < from + 0 → suc c < e
+        none x y = omega arith
+
+    pub partly-batch : (out : List Float) → Partly (λ g d. from ≤ g) out → Partly (λ g d. from + size ≤ g) (putBlocks out from dof ((count + 1) * 4) size (λ c k r. blockCell frames actions ds n info (from + k) c r) dof)
+    partly-batch out p =
+        partly-weaken {left = Left from size dof 0} {left′ = λ g d. from + size ≤ g} last (columns-put out dof (omega arith) (partly-weaken {left = λ g d. from ≤ g} {left′ = Left from size 0 0} first p))
+      where
+        first : (g d : ℕ) → d < dof → from ≤ g → Left from size 0 0 g d
+        first g d b l = (l, λ q. omega arith, λ q. omega arith)
+
+        last : (g d : ℕ) → d < dof → Left from size dof 0 g d → from + size ≤ g
+        last g d b l = go (ltb g (from + size)) refl
+          where
+            go : (t : Bool) → ltb g (from + size) ≡ t → from + size ≤ g
+            go true e = let m : dof ≤ d = l .1 (ltb-true g (from + size) e) in omega arith
+            go false e = ltb-false g (from + size) e
+
+  -- before the first batch, and after the last
+  pub partly-none : (out : List Float) → out ≡ replicate (count * dof * ((count + 1) * 4)) zeroF → Partly (λ g d. 0 ≤ g) out
+  partly-none out z = record {
+    size = ap length z ∙ length-replicate _ zeroF;
+    cells = λ g d row a b r free. ap (λ (l : List Float). l ! ((g * dof + d) * ((count + 1) * 4) + row)) z
+        ∙ getD-replicate (count * dof * ((count + 1) * 4)) ((g * dof + d) * ((count + 1) * 4) + row) zeroF nan (cell ((count + 1) * 4) (count * dof) row (g * dof + d) r (below g d a b))
+        ∙ sym (beside-is dof g d b frames actions ds n info row (λ e. free e (omega arith)));
+  }
+
+  pub partly-all : (out : List Float) (from : ℕ) → count ≤ from → Partly (λ g d. from ≤ g) out → out ≡ grid ((count + 1) * 4) (count * dof) (jacobianCell frames actions ds n info dof)
+  partly-all out from h p =
+      let m = length-grid ((count + 1) * 4) (count * dof) (jacobianCell frames actions ds n info dof) in
+      ext-getD nan out _ (p .size ∙ sym m) (λ i l. ap (λ q. out ! q) (sym (div-add-mod' i ((count + 1) * 4))) ∙ place (i / ((count + 1) * 4)) (i % ((count + 1) * 4)) (mod-lt i (omega arith)) (div-lt-iff-lt-mul (omega arith) .1 (omega (arith, l, p .size))) ∙ ap (λ q. whole ! q) (div-add-mod' i ((count + 1) * 4)))
+    where
+      whole : List Float
+      whole = grid ((count + 1) * 4) (count * dof) (jacobianCell frames actions ds n info dof)
+
+      some : (a b x : ℕ) → x < a * b → 0 < b
+      some a zero x l = absurd (not-suc-le-zero (rw mul-zero at l))
+      some a (suc b) x l = omega arith
+
+      place : (col row : ℕ) → row < (count + 1) * 4 → col < count * dof → out ! (col * ((count + 1) * 4) + row) ≡ whole ! (col * ((count + 1) * 4) + row)
+      place col row r c =
+          let e = div-add-mod' col dof in
+          let is = rw e at (p .cells (col / dof) (col % dof) row (div-lt-iff-lt-mul (some count dof col c) .1 c) (mod-lt col (some count dof col c)) r (λ s (l : from ≤ col / dof). far l)) in
+          is ∙ sym (at-grid ((count + 1) * 4) (count * dof) (jacobianCell frames actions ds n info dof) row col r c) ∙ ap (λ q. whole ! q) (off-add (col * ((count + 1) * 4)) row)
+        where
+          far : from ≤ col / dof → ⊥
+          far l = let q : col / dof < count = div-lt-iff-lt-mul (some count dof col c) .1 c in omega arith

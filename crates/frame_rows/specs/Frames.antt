@@ -1,6 +1,6 @@
 -- What the callees give of one set is what the definitions say, and where its block lies in the Jacobian. Assumes nothing.
 use Prim.Native.Nat.{ℕ, zero, suc, _+_, _*_, _<_, _≤_}
-use native.Mathlib.Nat.{add-mul, mul-le-mul-right, suc-mul, mul-one, mul-le-mul-left, not-suc-le-zero, le-of-suc-le-suc}
+use native.Mathlib.Nat.{add-zero, mul-assoc, mul-one, mul-le-mul-left, mul-le-mul-right, suc-mul, not-suc-le-zero, le-of-suc-le-suc}
 use native.Mathlib.Omega.{arith}
 use mathlib.Core.Path.{_≡_, refl, ap, _∙_}
 use mathlib.Core.List.{List, [], _∷_}
@@ -17,8 +17,9 @@ use Rattle.point_moments.specs.declared.scatter.Centred.{Centred}
 use Rattle.plane_fit.specs.Fit.{frameAt, actionAt, frameCount}
 use Rattle.frame_normal.specs.Normal.{normalIn, alongOf}
 use Rattle.frame_rows.specs.Rows.{setRow, decompositionAt, frameRow, fixedRow, blockCell}
-use Rattle.frame_rows.specs.Steps.{rootOf, rowsOf, columnOf, putColumns, Room}
-use Rattle.frame_rows.specs.Laws.{put-same}
+use Rattle.frame_rows.specs.Steps.{rootOf, rowsOf}
+use Rattle.frame_rows.specs.Batch.{residualRows, columnRows, BatchRoom}
+use Rattle.frame_rows.specs.Cells.{block-place}
 use Rattle.frame_rows.specs.declared.Root.{Root}
 
 -- the four rows of a set
@@ -31,41 +32,19 @@ four-is d count v s info (suc (suc (suc zero))) h = refl
 four-is d count v s info (suc (suc (suc (suc k)))) h =
     absurd (not-suc-le-zero (le-of-suc-le-suc (le-of-suc-le-suc (le-of-suc-le-suc (le-of-suc-le-suc h)))))
 
--- of frame k, by what was read and worked out of it
-module _ (frames actions : List Float) (ds : List ℕ) (n : List Float) (info : Float) (k : ℕ) (s : Centred) (x : List Float) (d : List ℕ) (root : Root) (set : s ≡ frameAt frames k) (action : x ≡ actionAt actions k) (decomposition : d ≡ decompositionAt ds (k + 1)) (rooted : root ≡ rootOf d (s .count)) where
-  pub frame-four : (offset : Float) (a w : List Float) (e : Float) (four out : List Float) (at : ℕ) → a ≡ normalIn x n → w ≡ carried x (s .mean) → e ≡ alongOf n offset w → four ≡ rowsOf root a e info
-      → written out at 4 (λ i. four ! i) ≡ written out at 4 (λ r. frameRow frames actions ds n offset info r k)
+-- of frame f, by its root
+module _ (frames actions : List Float) (ds : List ℕ) (n : List Float) (info : Float) (f : ℕ) (root : Root) (rooted : root ≡ rootOf (decompositionAt ds (f + 1)) (frameAt frames f .count)) where
+  pub frame-four : (offset : Float) (r : ℕ) → r < 4 → residualRows frames actions n offset info root f ! r ≡ frameRow frames actions ds n offset info r f
   unfolding frameRow
-  frame-four offset a w e four out at ha hw he hf = written-same out at 4 _ _ row
-    where
-      whole : List ℕ → List Float → Centred → ℕ → Float
-      whole d x s r = setRow d (s .count) (normalIn x n) (alongOf n offset (carried x (s .mean))) info r
+  frame-four offset r h =
+      ap (λ (q : Root). residualRows frames actions n offset info q f ! r) rooted
+      ∙ four-is (decompositionAt ds (f + 1)) (frameAt frames f .count) (normalIn (actionAt actions f) n) (alongOf n offset (carried (actionAt actions f) (frameAt frames f .mean))) info r h
 
-      row : (r : ℕ) → r < 4 → four ! r ≡ whole (decompositionAt ds (k + 1)) (actionAt actions k) (frameAt frames k) r
-      row r h =
-          ap (λ (l : List Float). l ! r) hf
-          ∙ ap (λ (q : Root). rowsOf q a e info ! r) rooted
-          ∙ four-is d (s .count) a e info r h
-          ∙ ap (λ (y : List Float). setRow d (s .count) y e info r) ha
-          ∙ ap (λ (y : Float). setRow d (s .count) (normalIn x n) y info r) (he ∙ ap (λ (y : List Float). alongOf n offset y) hw)
-          ∙ ap (λ (y : List ℕ). whole y x s r) decomposition
-          ∙ ap (λ (y : List Float). whole (decompositionAt ds (k + 1)) y s r) action
-          ∙ ap (λ (y : Centred). whole (decompositionAt ds (k + 1)) (actionAt actions k) y r) set
-
-  pub block-four : (out : List Float) (from stride width : ℕ) → putColumns out from stride (λ c i. columnOf x n (s .mean) root info c ! i) width ≡ putColumns out from stride (λ c r. blockCell frames actions ds n info k c r) width
+  pub block-four : (c r : ℕ) → r < 4 → columnRows frames actions n info c root f ! r ≡ blockCell frames actions ds n info f c r
   unfolding blockCell
-  block-four out from stride width = put-same out from stride _ _ width row
-    where
-      whole : List ℕ → List Float → Centred → ℕ → ℕ → Float
-      whole d x s c r = setRow d (s .count) (tab 3 (λ l. dAn x n l c)) (dAlong x n (s .mean) c) info r
-
-      row : (c r : ℕ) → r < 4 → columnOf x n (s .mean) root info c ! r ≡ whole (decompositionAt ds (k + 1)) (actionAt actions k) (frameAt frames k) c r
-      row c r h =
-          ap (λ (q : Root). columnOf x n (s .mean) q info c ! r) rooted
-          ∙ four-is d (s .count) (tab 3 (λ l. dAn x n l c)) (dAlong x n (s .mean) c) info r h
-          ∙ ap (λ (y : List ℕ). whole y x s c r) decomposition
-          ∙ ap (λ (y : List Float). whole (decompositionAt ds (k + 1)) y s c r) action
-          ∙ ap (λ (y : Centred). whole (decompositionAt ds (k + 1)) (actionAt actions k) y c r) set
+  block-four c r h =
+      ap (λ (q : Root). columnRows frames actions n info c q f ! r) rooted
+      ∙ four-is (decompositionAt ds (f + 1)) (frameAt frames f .count) (tab 3 (λ l. dAn (actionAt actions f) n l c)) (dAlong (actionAt actions f) n (frameAt frames f .mean) c) info r h
 
 -- of the fixed set, or where there is none
 never : {n : ℕ} → suc n ≡ 0 → ⊥
@@ -105,25 +84,29 @@ module _ (count : ℕ) (fixed : List Float) (ds : List ℕ) (n : List Float) (of
 pub decomposition-whole : (ds : List ℕ) (k : ℕ) → k * DECOMPOSITION + DECOMPOSITION ≤ length ds → length (decompositionAt ds k) ≡ DECOMPOSITION
 decomposition-whole ds k h = simp (length-take, length-drop) (omega arith)
 
--- where a frame's block lies: its columns end within the Jacobian
-module _ (count width k : ℕ) (frame : k < count) where
-  pub block-starts : (rows : ℕ) → k * width * rows ≤ count * width * rows
-  block-starts rows = mul-le-mul-right rows (omega (arith, mul-le-mul-right width frame, suc-mul k width))
+-- the columns of a batch's blocks lie within the Jacobian
+module _ (frames actions : List Float) (from size width rows cells : ℕ) (room : BatchRoom frames actions from size width rows cells) (c : ℕ) (column : c < width) where
+  column-starts : (k : ℕ) → k < size → ((from + k) * width + c) * rows + rows ≤ cells
+  column-starts k h =
+      let frame : from + k < frameCount frames = omega (arith, room .within) in
+      let inside : (from + k) * width + c < frameCount frames * width = omega (arith, mul-le-mul-right width frame, suc-mul (from + k) width) in
+      rw (room .cells-whole, room .rows-whole) (column-ends ((frameCount frames + 1) * 4) (frameCount frames * width) ((from + k) * width + c) inside)
 
-  pub block-ends : (c : ℕ) → c < width → k * width * ((count + 1) * 4) + k * 4 + c * ((count + 1) * 4) + 4 ≤ count * width * ((count + 1) * 4)
-  block-ends c h =
-      let rows = (count + 1) * 4 in
-      let inside : k * width + c < count * width = omega (arith, mul-le-mul-right width frame, suc-mul k width) in
-      omega (arith, column-ends rows (count * width) (k * width + c) inside, add-mul (k * width) c rows)
+  pub column-fits : (k : ℕ) → k < size → (from * width + c) * rows + from * 4 + k * (width * rows + 4) + 4 ≤ cells
+  column-fits k h = rw (block-place from k width c rows) (omega (arith, column-starts k h, room .rows-whole, room .within))
 
-module _ (frames actions : List Float) (ds : List ℕ) (residuals cells width : ℕ) (room : Room frames actions ds residuals cells width) (k : ℕ) (frame : k < frameCount frames) where
-  pub room-starts : k * width * residuals ≤ cells
-  room-starts = rw (room .residual-whole, room .jacobian-whole) (block-starts (frameCount frames) width k frame ((frameCount frames + 1) * 4))
+  -- so its place, and the step from one block to the next, are numbers of the machine
+  pub batch-starts : (from * width + c) * rows + rows ≤ cells
+  batch-starts = rw add-zero at (column-starts 0 (room .some))
 
-  pub room-narrow : k * width ≤ k * width * residuals
-  room-narrow =
-      let some : 1 ≤ residuals = omega (arith, room .residual-whole) in
-      rw (mul-one (k * width)) at (mul-le-mul-left (k * width) some)
+  pub batch-narrow : from * width + c ≤ (from * width + c) * rows
+  batch-narrow =
+      let one : 1 ≤ rows = omega (arith, room .rows-whole) in
+      rw (mul-one (from * width + c)) at (mul-le-mul-left (from * width + c) one)
 
-  pub room-ends : (c : ℕ) → c < width → k * width * residuals + k * 4 + c * residuals + 4 ≤ cells
-  room-ends c h = rw (room .residual-whole, room .jacobian-whole) (block-ends (frameCount frames) width k frame c h)
+  pub batch-step : width * rows ≤ cells
+  batch-step =
+      let one : 1 ≤ frameCount frames = omega (arith, room .within, room .some) in
+      let wide : 1 * (width * rows) ≤ frameCount frames * (width * rows) = mul-le-mul-right (width * rows) one in
+      let all : cells ≡ frameCount frames * (width * rows) = rw (room .cells-whole, room .rows-whole, mul-assoc) in
+      omega (arith, wide, all)

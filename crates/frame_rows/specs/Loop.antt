@@ -1,7 +1,6 @@
--- The loop over the frames: what it has after k of them, before the first, after one more, and at the end. Assumes nothing.
-use Prim.Native.Nat.{ℕ, _+_, _*_, _<_, _≤_}
-use native.Mathlib.Nat.{zero-mul, suc-mul, le-refl}
-use native.Mathlib.Numerals.{add-one}
+-- The loop over the batches: what it has after so many frames, before the first, after one more batch, and at the end. Assumes nothing.
+use Prim.Native.Nat.{ℕ, zero, suc, _+_, _*_, _<_, _≤_}
+use native.Mathlib.Nat.{add-zero}
 use native.Mathlib.Omega.{arith}
 use mathlib.Core.Path.{_≡_, ap, _∙_}
 use mathlib.Core.List.{List, [], _++_}
@@ -10,42 +9,59 @@ use lib.Seq.{take-at}
 use lib.Ieee.{Float}
 use Rattle.sums.specs.Sum.{zeroF, grid}
 use Rattle.sums.specs.Laws.{length-grid}
-use Rattle.sums.specs.Fill.{written, Columns, columns-none, columns-more, columns-all}
+use Rattle.sums.specs.Fill.{written, Columns, columns-none, columns-more}
+use Rattle.lists.specs.Part.{_!_}
 use Rattle.plane_fit.specs.Fit.{frameCount}
-use Rattle.frame_rows.specs.Rows.{frameRow, fixedRow, residualOf, jacobianCell, jacobianOf}
-use Rattle.frame_rows.specs.Steps.{Room, FrameWritten, FramesWritten}
-use Rattle.frame_rows.specs.Cells.{block-filled}
+use Rattle.frame_rows.specs.Rows.{frameRow, fixedRow, blockCell, residualOf, jacobianOf}
+use Rattle.frame_rows.specs.Steps.{putColumns, putBlocks, Room, FramesWritten}
+use Rattle.frame_rows.specs.Batch.{rowsIn, rootIn, residualRows, columnRows, Rooted, Held}
+use Rattle.frame_rows.specs.Laws.{put-same, blocks-same}
+use Rattle.frame_rows.specs.Cells.{Partly, partly-none, partly-batch, partly-all}
+use Rattle.frame_rows.specs.Frames.{frame-four, block-four}
+
+-- so many columns more
+columns-batch : (cols : ℕ) (f : ℕ → ℕ → Float) (l out : List Float) (from size : ℕ) → length l ≡ cols * 4 → from + size ≤ cols → Columns 4 cols f l out from → Columns 4 cols f l (putColumns out (from * 4) 4 (λ k r. f r (from + k)) size) (from + size)
+unfolding putColumns
+columns-batch cols f l out from zero n h p = rw add-zero p
+columns-batch cols f l out from (suc k) n h p =
+    let e : from * 4 + k * 4 ≡ (from + k) * 4 = omega arith in
+    let s : from + k + 1 ≡ from + suc k = omega arith in
+    rw s at (columns-more 4 cols f l _ _ (from + k) n (omega arith) (columns-batch cols f l out from k n (omega arith) p) (ap (λ i. written (putColumns out (from * 4) 4 (λ k r. f r (from + k)) k) i 4 (λ r. f r (from + k))) e))
 
 module _ (frames actions : List Float) (ds : List ℕ) (n : List Float) (offset info : Float) (width : ℕ) (residual jacobian : List Float) where
   pub record Lined (residual′ jacobian′ : List Float) (k : ℕ) : Type 0 where
     pub rows : Columns 4 (frameCount frames + 1) (frameRow frames actions ds n offset info) residual residual′ k
-    pub cells : Columns ((frameCount frames + 1) * 4) (frameCount frames * width) (jacobianCell frames actions ds n info width) jacobian jacobian′ (k * width)
+    pub cells : Partly frames actions ds n info (frameCount frames) width (λ g d. k ≤ g) jacobian′
 
-  pub lined-none : Lined residual jacobian 0
-  lined-none = record { rows = columns-none _ _ _ _; cells = rw zero-mul (columns-none _ _ _ _) }
-
-  module _ (room : Room frames actions ds (length residual) (length jacobian) width) (clear : jacobian ≡ replicate (length jacobian) zeroF) (residual′ jacobian′ : List Float) (k : ℕ) (sofar : Lined residual′ jacobian′ k) where
-    -- there is room for the next frame
-    pub lined-room : Room frames actions ds (length residual′) (length jacobian′) width
-    lined-room = rw (sofar .rows .size, sofar .cells .size) room
-
-    pub lined-more : (residual″ jacobian″ : List Float) → k < frameCount frames → FrameWritten frames actions ds k n offset info width residual′ jacobian′ residual″ jacobian″ → Lined residual″ jacobian″ (k + 1)
-    lined-more residual″ jacobian″ h w =
-        let e : length residual′ ≡ (frameCount frames + 1) * 4 = sofar .rows .size ∙ room .residual-whole in
-        let next : (k + 1) * width ≡ k * width + width = rw (add-one k, suc-mul) in
-        let zeros = clear ∙ ap (λ m. replicate m zeroF) (room .jacobian-whole) in
-        let block = block-filled frames actions ds n info (frameCount frames) width jacobian zeros jacobian′ k width h (le-refl width) (sofar .cells) in
-        record {
-          rows = columns-more 4 (frameCount frames + 1) (frameRow frames actions ds n offset info) residual residual′ residual″ k (room .residual-whole) (omega arith) (sofar .rows) (w .residual-is);
-          cells = rw (next, w .jacobian-is, e) block;
-        }
-
-    pub lined-all : k ≡ frameCount frames → FramesWritten frames actions ds n offset info width residual residual′ jacobian′
-    unfolding jacobianOf
-    lined-all e = record {
-      residual-is = rw e at (sofar .rows .filled);
-      jacobian-is = columns-all ((frameCount frames + 1) * 4) (frameCount frames * width) (jacobianCell frames actions ds n info width) jacobian jacobian′ (k * width) (room .jacobian-whole) (rw e (le-refl (frameCount frames * width))) (sofar .cells);
+  module _ (room : Room frames actions ds (length residual) (length jacobian) width) where
+    pub lined-none : jacobian ≡ replicate (length jacobian) zeroF → Lined residual jacobian 0
+    lined-none clear = record {
+      rows = columns-none _ _ _ _;
+      cells = partly-none frames actions ds n info (frameCount frames) width jacobian (clear ∙ ap (λ m. replicate m zeroF) (room .jacobian-whole));
     }
+
+    module _ (residual′ jacobian′ : List Float) (from : ℕ) (sofar : Lined residual′ jacobian′ from) where
+      pub lined-more : (residual″ jacobian″ : List Float) (size : ℕ) (first second third last cells : List Float) → from + size ≤ frameCount frames → Rooted frames ds from size first second third last
+          → Held (λ k. residualRows frames actions n offset info (rootIn first second third last k) (from + k)) size cells
+          → residual″ ≡ putColumns residual′ (from * 4) 4 (λ k r. rowsIn cells k ! r) size
+          → jacobian″ ≡ putBlocks jacobian′ from width (length residual) size (λ c k r. columnRows frames actions n info c (rootIn first second third last k) (from + k) ! r) width
+          → Lined residual″ jacobian″ (from + size)
+      lined-more residual″ jacobian″ size first second third last cells h rooted held hr hj =
+          let row : (k : ℕ) → k < size → (r : ℕ) → r < 4 → rowsIn cells k ! r ≡ frameRow frames actions ds n offset info r (from + k)
+          = λ k l r b. ap (λ (v : List Float). v ! r) (held .rows k l) ∙ frame-four frames actions ds n info (from + k) _ (rooted .roots k l) offset r b in
+          let block : (c k : ℕ) → k < size → (r : ℕ) → r < 4 → columnRows frames actions n info c (rootIn first second third last k) (from + k) ! r ≡ blockCell frames actions ds n info (from + k) c r
+          = λ c k l r b. block-four frames actions ds n info (from + k) _ (rooted .roots k l) c r b in
+          record {
+            rows = rw (hr, put-same residual′ (from * 4) 4 _ (λ k r. frameRow frames actions ds n offset info r (from + k)) size row) (columns-batch (frameCount frames + 1) (frameRow frames actions ds n offset info) residual residual′ from size (room .residual-whole) (omega arith) (sofar .rows));
+            cells = rw (hj, blocks-same jacobian′ from width (length residual) size _ (λ c k r. blockCell frames actions ds n info (from + k) c r) width block, room .residual-whole) (partly-batch frames actions ds n info (frameCount frames) width from size h jacobian′ (sofar .cells));
+          }
+
+      pub lined-all : from ≡ frameCount frames → FramesWritten frames actions ds n offset info width residual residual′ jacobian′
+      unfolding jacobianOf
+      lined-all e = record {
+        residual-is = rw e at (sofar .rows .filled);
+        jacobian-is = partly-all frames actions ds n info (frameCount frames) width jacobian′ from (omega arith) (sofar .cells);
+      }
 
 -- the frames' rows, then the fixed set's
 pub rows-all : (frames fixed actions : List Float) (ds : List ℕ) (n : List Float) (offset info : Float) (residual residual′ residual″ : List Float) → length residual ≡ (frameCount frames + 1) * 4

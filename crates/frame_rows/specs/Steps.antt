@@ -13,7 +13,7 @@ use Rattle.derivative.specs.Action.{actionSize}
 use Rattle.decomposition.specs.Axes.{DECOMPOSITION}
 use Rattle.point_moments.specs.Scatter.{CENTRED}
 use Rattle.plane_fit.specs.Fit.{frameCount}
-use Rattle.frame_rows.specs.Rows.{rootRow, frameRow, blockCell, jacobianOf}
+use Rattle.frame_rows.specs.Rows.{rootRow, frameRow, jacobianOf}
 use Rattle.frame_rows.specs.declared.Root.{Root}
 
 -- the three rows of R, and sqrt(count)
@@ -33,6 +33,12 @@ unfoldable pub putColumns : List Float → ℕ → ℕ → (ℕ → ℕ → Floa
 putColumns out from stride f zero = out
 putColumns out from stride f (suc c) = written (putColumns out from stride f c) (from + c * stride) 4 (f c)
 
+-- the first n columns of the blocks of so many frames from `from` on, column after column: a block lies `width` columns and four rows after the one before
+unfoldable pub putBlocks : List Float → ℕ → ℕ → ℕ → ℕ → (ℕ → ℕ → ℕ → Float) → ℕ → List Float
+putBlocks out from width rows size f zero = out
+putBlocks out from width rows size f (suc c) =
+    putColumns (putBlocks out from width rows size f c) ((from * width + c) * rows + from * 4) (width * rows + 4) (f c) size
+
 -- what the work on all frames asks of the lists: an action and a decomposition for each, and outputs of the right lengths, with so many columns a frame
 pub record Room (frames actions : List Float) (ds : List ℕ) (residuals cells width : ℕ) : Type 0 where
   pub actions-whole : length actions ≡ actionSize * frameCount frames
@@ -46,11 +52,6 @@ pub record FixedRoom (fixed : List Float) (ds : List ℕ) (count residuals : ℕ
   pub fixed-whole : (length fixed ≡ 0) ⊎ (length fixed ≡ CENTRED)
   pub own-decomposition : (length fixed ≡ 0 → ⊥) → (count + 2) * DECOMPOSITION ≤ length ds
   pub residual-whole : residuals ≡ (count + 1) * 4
-
--- frame k's residuals and block, over what was there
-pub record FrameWritten (frames actions : List Float) (ds : List ℕ) (k : ℕ) (n : List Float) (offset info : Float) (width : ℕ) (residual jacobian residual′ jacobian′ : List Float) : Type 0 where
-  pub residual-is : residual′ ≡ written residual (k * 4) 4 (λ r. frameRow frames actions ds n offset info r k)
-  pub jacobian-is : jacobian′ ≡ putColumns jacobian (k * width * length residual + k * 4) (length residual) (λ c r. blockCell frames actions ds n info k c r) width
 
 -- all frames' residuals, before the fixed set's; and their blocks
 pub record FramesWritten (frames actions : List Float) (ds : List ℕ) (n : List Float) (offset info : Float) (width : ℕ) (residual residual′ jacobian′ : List Float) : Type 0 where

@@ -8,9 +8,11 @@ ghost use Rattle.sums.specs.Fill.{written};
 ghost use Rattle.lists.specs.Part.{_!_};
 ghost use Rattle.decomposition.specs.Axes.{DECOMPOSITION};
 ghost use Rattle.derivative.specs.Action.{actionSize};
+ghost use Rattle.point_moments.specs.Scatter.{CENTRED};
 ghost use Rattle.plane_fit.specs.Fit.{frameCount};
 ghost use Rattle.frame_rows.specs.Rows.{scaleOf, rootRow, decompositionAt, fixedRow, residualOf, jacobianOf};
-ghost use Rattle.frame_rows.specs.Steps.{rootOf, rowsOf, columnOf, putColumns, Room, FixedRoom, FrameWritten, FramesWritten};
+ghost use Rattle.frame_rows.specs.Steps.{rootOf, rowsOf, columnOf, putColumns, putBlocks, Room, FixedRoom, FramesWritten};
+ghost use Rattle.frame_rows.specs.Batch.{BATCH, THREES, FOURS, threeIn, rowsIn, rootIn, withThree, withRows, residualRows, columnRows, BatchRoom, Rooted, Held};
 use decomposition::DECOMPOSITION;
 use derivative::ACTION;
 use point_moments::scatter::CENTRED;
@@ -116,68 +118,208 @@ fn column(x: &[f64], n: [f64; 3], mean: [f64; 3], root: Root, info: f64, c: usiz
     root.rows([d0, d1, d2], m, info)
 }
 
-// The first `width` columns of a frame's block, from a place on and `stride` apart.
-fn put_columns(
-    out: &mut [f64],
-    from: usize,
-    stride: usize,
-    width: usize,
-    x: &[f64],
-    n: [f64; 3],
-    mean: [f64; 3],
-    root: Root,
-    info: f64,
-)
-    requires { ⌜ (width ≤ 9) × (length (now x) ≡ actionSize) × ((c : ℕ) → c < width → from + c * stride + 4 ≤ length (now out)) ⌝ }
-    ensures { λ _. ⌜ now (out .exit) ≡ putColumns (now (out .entry)) from stride (λ c k. columnOf (now (x .entry)) n mean root info c ! k) width ⌝ }
+// How many frames' rows are worked out before they are stored.
+const BATCH: usize = 8;
+
+// Puts three numbers into those of a batch as those of its k-th frame.
+fn put_three(cells: &mut [f64; 24], k: usize, v: [f64; 3])
+    requires { ⌜ (k < BATCH) × (length (now cells) ≡ THREES) ⌝ }
+    ensures { λ _. ⌜ now (cells .exit) ≡ withThree (now (cells .entry)) k v ⌝ }
 {
-    for c in 0..width {
-        let at = from + c * stride;
-        put_four(out, at, column(x, n, mean, root, info, c));
+    cells[k] = v[0];
+    cells[BATCH + k] = v[1];
+    cells[2 * BATCH + k] = v[2];
+}
+
+// The three numbers of the k-th frame of a batch.
+fn three_at(cells: &[f64; 24], k: usize) -> [f64; 3]
+    requires { ⌜ k < BATCH ⌝ }
+    ensures { λ r. ⌜ r ≡ threeIn (now (cells .entry)) k ⌝ }
+{
+    [cells[k], cells[BATCH + k], cells[2 * BATCH + k]]
+}
+
+// The roots of a batch of frames from frame `from` on, number after number: number e of the batch's k-th frame stands at e * BATCH + k.
+fn fill_roots(
+    frames: &[f64],
+    ds: &[u64],
+    from: usize,
+    size: usize,
+    first: &mut [f64; 24],
+    second: &mut [f64; 24],
+    third: &mut [f64; 24],
+    last: &mut [f64; 8],
+)
+    requires { ⌜ (size ≤ BATCH) × (length (now first) ≡ THREES) × (length (now second) ≡ THREES) × (length (now third) ≡ THREES) × (length (now last) ≡ BATCH) × (CENTRED * (from + size) ≤ length (now frames)) × ((from + size + 1) * DECOMPOSITION ≤ length (now ds)) ⌝ }
+    ensures { λ _. ⌜ Rooted (now (frames .entry)) (now (ds .entry)) from size (now (first .exit)) (now (second .exit)) (now (third .exit)) (now (last .exit)) ⌝ }
+{
+    for k in 0..size {
+        let f = Centred::from_list(plane_fit::whole_at(frames, CENTRED, from + k));
+        let root = Root::of(decomposition_at(ds, from + k + 1), f.count);
+        let a = root.first;
+        let b = root.second;
+        let c = root.third;
+        put_three(first, k, a);
+        put_three(second, k, b);
+        put_three(third, k, c);
+        last[k] = root.last;
     }
 }
 
-// Frame k's four residuals, and the first `width` columns of its block.
-fn write_frame(
+// The root of the k-th frame of a batch.
+fn root_at(
+    first: &[f64; 24],
+    second: &[f64; 24],
+    third: &[f64; 24],
+    last: &[f64; 8],
+    k: usize,
+) -> Root
+    requires { ⌜ k < BATCH ⌝ }
+    ensures { λ r. ⌜ r ≡ rootIn (now (first .entry)) (now (second .entry)) (now (third .entry)) (now (last .entry)) k ⌝ }
+{
+    let a = three_at(first, k);
+    let b = three_at(second, k);
+    let c = three_at(third, k);
+    Root {
+        first: a,
+        second: b,
+        third: c,
+        last: last[k],
+    }
+}
+
+// Puts four rows into those of a batch as those of its k-th frame.
+fn put_rows(cells: &mut [f64; 32], k: usize, v: [f64; 4])
+    requires { ⌜ (k < BATCH) × (length (now cells) ≡ FOURS) ⌝ }
+    ensures { λ _. ⌜ now (cells .exit) ≡ withRows (now (cells .entry)) k v ⌝ }
+{
+    cells[k] = v[0];
+    cells[BATCH + k] = v[1];
+    cells[2 * BATCH + k] = v[2];
+    cells[3 * BATCH + k] = v[3];
+}
+
+// The residuals of a batch of frames. The loop's stores are neighbours, so that the compiler works out two frames at a time.
+fn fill_residuals(
     frames: &[f64],
     actions: &[f64],
-    ds: &[u64],
-    k: usize,
+    from: usize,
+    size: usize,
+    first: &[f64; 24],
+    second: &[f64; 24],
+    third: &[f64; 24],
+    last: &[f64; 8],
     n: [f64; 3],
     offset: f64,
     info: f64,
-    width: usize,
-    residual: &mut [f64],
-    jacobian: &mut [f64],
+    cells: &mut [f64; 32],
 )
-    requires { ⌜ (k < frameCount (now frames)) × Room (now frames) (now actions) (now ds) (length (now residual)) (length (now jacobian)) width ⌝ }
-    ensures { λ _. ⌜ FrameWritten (now (frames .entry)) (now (actions .entry)) (now (ds .entry)) k n offset info width (now (residual .entry)) (now (jacobian .entry)) (now (residual .exit)) (now (jacobian .exit)) ⌝ }
+    requires { ⌜ (size ≤ BATCH) × (length (now cells) ≡ FOURS) × (CENTRED * (from + size) ≤ length (now frames)) × (actionSize * (from + size) ≤ length (now actions)) ⌝ }
+    ensures { λ _. ⌜ Held (λ k. residualRows (now (frames .entry)) (now (actions .entry)) n offset info (rootIn (now (first .entry)) (now (second .entry)) (now (third .entry)) (now (last .entry)) k) (from + k)) size (now (cells .exit)) ⌝ }
 {
-    let rows = residual.len();
-    let f = Centred::from_list(plane_fit::whole_at(frames, CENTRED, k));
-    let x = plane_fit::whole_at(actions, ACTION, k);
-    let root = Root::of(decomposition_at(ds, k + 1), f.count);
-    let mean = f.mean;
-    let along = frame_normal::along(n, offset, action::carried(x, mean));
-    put_four(
-        residual,
-        k * 4,
-        root.rows(frame_normal::normal_in(x, n), along, info),
-    );
-    put_columns(
-        jacobian,
-        k * width * rows + k * 4,
-        rows,
-        width,
-        x,
-        n,
-        mean,
-        root,
-        info,
-    );
+    for k in 0..size {
+        let f = Centred::from_list(plane_fit::whole_at(frames, CENTRED, from + k));
+        let x = plane_fit::whole_at(actions, ACTION, from + k);
+        let mean = f.mean;
+        let along = frame_normal::along(n, offset, action::carried(x, mean));
+        let root = root_at(first, second, third, last, k);
+        put_rows(
+            cells,
+            k,
+            root.rows(frame_normal::normal_in(x, n), along, info),
+        );
+    }
 }
 
-// The residuals of all frames, and their blocks into a Jacobian that is +0 everywhere.
+// Column c of the blocks of a batch of frames.
+fn fill_column(
+    frames: &[f64],
+    actions: &[f64],
+    from: usize,
+    size: usize,
+    first: &[f64; 24],
+    second: &[f64; 24],
+    third: &[f64; 24],
+    last: &[f64; 8],
+    n: [f64; 3],
+    info: f64,
+    c: usize,
+    cells: &mut [f64; 32],
+)
+    requires { ⌜ (c < 9) × (size ≤ BATCH) × (length (now cells) ≡ FOURS) × (CENTRED * (from + size) ≤ length (now frames)) × (actionSize * (from + size) ≤ length (now actions)) ⌝ }
+    ensures { λ _. ⌜ Held (λ k. columnRows (now (frames .entry)) (now (actions .entry)) n info c (rootIn (now (first .entry)) (now (second .entry)) (now (third .entry)) (now (last .entry)) k) (from + k)) size (now (cells .exit)) ⌝ }
+{
+    for k in 0..size {
+        let f = Centred::from_list(plane_fit::whole_at(frames, CENTRED, from + k));
+        let x = plane_fit::whole_at(actions, ACTION, from + k);
+        let mean = f.mean;
+        let root = root_at(first, second, third, last, k);
+        put_rows(cells, k, column(x, n, mean, root, info, c));
+    }
+}
+
+// Stores the four rows of each frame of a batch, from a place on and `stride` apart.
+fn store_rows(out: &mut [f64], at: usize, stride: usize, size: usize, cells: &[f64; 32])
+    requires { ⌜ (size ≤ BATCH) × ((k : ℕ) → k < size → at + k * stride + 4 ≤ length (now out)) ⌝ }
+    ensures { λ _. ⌜ now (out .exit) ≡ putColumns (now (out .entry)) at stride (λ k r. rowsIn (now (cells .entry)) k ! r) size ⌝ }
+{
+    for k in 0..size {
+        let v = [
+            cells[k],
+            cells[BATCH + k],
+            cells[2 * BATCH + k],
+            cells[3 * BATCH + k],
+        ];
+        put_four(out, at + k * stride, v);
+    }
+}
+
+// The columns of a batch's blocks.
+fn write_columns(
+    frames: &[f64],
+    actions: &[f64],
+    from: usize,
+    size: usize,
+    first: &[f64; 24],
+    second: &[f64; 24],
+    third: &[f64; 24],
+    last: &[f64; 8],
+    n: [f64; 3],
+    info: f64,
+    width: usize,
+    rows: usize,
+    jacobian: &mut [f64],
+)
+    requires { ⌜ BatchRoom (now frames) (now actions) from size width rows (length (now jacobian)) ⌝ }
+    ensures { λ _. ⌜ now (jacobian .exit) ≡ putBlocks (now (jacobian .entry)) from width rows size (λ c k r. columnRows (now (frames .entry)) (now (actions .entry)) n info c (rootIn (now (first .entry)) (now (second .entry)) (now (third .entry)) (now (last .entry)) k) (from + k) ! r) width ⌝ }
+{
+    let mut cells = [0.0; 32];
+    for c in 0..width {
+        fill_column(
+            frames,
+            actions,
+            from,
+            size,
+            first,
+            second,
+            third,
+            last,
+            n,
+            info,
+            c,
+            &mut cells,
+        );
+        store_rows(
+            jacobian,
+            (from * width + c) * rows + from * 4,
+            width * rows + 4,
+            size,
+            &cells,
+        );
+    }
+}
+
+// The residuals of all frames, and their blocks into a Jacobian that is +0 everywhere. Small arrays are cleared faster than a large one.
 fn write_frames(
     frames: &[f64],
     actions: &[f64],
@@ -193,19 +335,56 @@ fn write_frames(
     ensures { λ _. ⌜ FramesWritten (now (frames .entry)) (now (actions .entry)) (now (ds .entry)) n offset info width (now (residual .entry)) (now (residual .exit)) (now (jacobian .exit)) ⌝ }
 {
     let count = frames.len() / CENTRED;
-    for k in 0..count {
-        write_frame(
+    let rows = residual.len();
+    let mut first = [0.0; 24];
+    let mut second = [0.0; 24];
+    let mut third = [0.0; 24];
+    let mut last = [0.0; 8];
+    let mut cells = [0.0; 32];
+    let mut from = 0;
+    while from < count {
+        let size = lists::batch_size(count, from, BATCH);
+        fill_roots(
+            frames,
+            ds,
+            from,
+            size,
+            &mut first,
+            &mut second,
+            &mut third,
+            &mut last,
+        );
+        fill_residuals(
             frames,
             actions,
-            ds,
-            k,
+            from,
+            size,
+            &first,
+            &second,
+            &third,
+            &last,
             n,
             offset,
             info,
+            &mut cells,
+        );
+        store_rows(residual, from * 4, 4, size, &cells);
+        write_columns(
+            frames,
+            actions,
+            from,
+            size,
+            &first,
+            &second,
+            &third,
+            &last,
+            n,
+            info,
             width,
-            residual,
+            rows,
             jacobian,
         );
+        from = from + size;
     }
 }
 
