@@ -22,8 +22,9 @@ use Rattle.call_lists.specs.FrameLaws.{hessian-more, gradient-more}
 use Rattle.derivative.specs.Action.{actionSize}
 use Rattle.point_moments.specs.declared.scatter.Centred.{Centred}
 use Rattle.plane_fit.specs.Fit.{frameCount, frameAt, actionAt, andFixed}
-use Rattle.frame_blocks.specs.Frame.{blockEntry, pulledEntry, vectorEntry}
-use Rattle.frame_blocks.specs.Steps.{Added, Held}
+use Rattle.frame_segment.specs.Frame.{blockEntry, pulledEntry}
+use Rattle.frame_segment.specs.Steps.{Added, Held}
+use Rattle.frame_blocks.specs.Frame.{vectorEntry}
 use Rattle.frame_blocks.specs.Pulls.{BATCH, pullAt, pullIn, Pulled}
 use Rattle.frame_cost.specs.Cost.{frameCost, fixedCost, costAt, framesCost}
 use Rattle.frame_cost.specs.declared.Pull.{Pull}

@@ -1,4 +1,3 @@
 pub mod Frame
-pub mod Steps
 pub mod Pulls
 pub mod Frames

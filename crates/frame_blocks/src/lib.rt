@@ -1,6 +1,4 @@
-// What one frame adds under a plane beside its cost, and all frames of a call.
-pub mod block;
-
+// All frames of a call under a plane: what each costs, and what the mapped ones add.
 use derivative::ACTION;
 use frame_cost::Pull;
 use normal_blocks::Place;
@@ -15,7 +13,7 @@ ghost use Rattle.derivative.specs.Action.{actionSize};
 ghost use Rattle.point_moments.specs.Scatter.{CENTRED};
 ghost use Rattle.normal_blocks.specs.Map.{exceeds};
 ghost use Rattle.plane_fit.specs.Fit.{frameCount, frameAt, actionAt};
-ghost use Rattle.frame_blocks.specs.Steps.{Held};
+ghost use Rattle.frame_segment.specs.Steps.{Held};
 ghost use Rattle.frame_blocks.specs.Pulls.{BATCH, PULLS, pullIn, withPull, Pulled};
 ghost use Rattle.frame_blocks.specs.Frames.{Ready, FrameAdded, Summed, BatchAdded, AllAdded};
 
@@ -39,7 +37,7 @@ fn add_frame(
     let turn = pull.turn;
     match p {
         Place::At(at) => {
-            block::add_at(
+            frame_segment::add_at(
                 h,
                 g,
                 n,
@@ -168,20 +166,11 @@ fn add_frames(
     ensures { λ r. ⌜ Summed (length (now (g .entry))) dof (now (frames .entry)) (now (actions .entry)) (now (map .entry)) normal offset weight count r (now (h .entry)) (now (h .exit)) (now (g .entry)) (now (g .exit)) ⌝ }
 {
     let mut sum = 0.0;
-    let mut pulls = [0.0; 20];
+    let mut p = [0.0; 20];
     let mut from = 0;
     while from < count {
         let size = lists::batch_size(count, from, BATCH);
-        fill_pulls(
-            frames,
-            actions,
-            from,
-            size,
-            normal,
-            offset,
-            weight,
-            &mut pulls,
-        );
+        fill_pulls(frames, actions, from, size, normal, offset, weight, &mut p);
         sum = add_batch(
             h,
             g,
@@ -193,7 +182,7 @@ fn add_frames(
             size,
             normal,
             weight,
-            &pulls,
+            &p,
             sum,
         );
         from = from + size;

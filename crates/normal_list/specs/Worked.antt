@@ -27,7 +27,7 @@ use Rattle.plane_fit.specs.Records.{recordOf}
 use Rattle.plane_fit.specs.Fit.{fitMean, weighted, total, countAt, weightedAt}
 use Rattle.derivative.specs.Derivative.{normalRow, combined, shifted}
 use Rattle.frame_cost.specs.Cost.{weightOf, scatterOn, costOf, frameCost, fixedCost, costAt, framesCost}
-use Rattle.frame_blocks.specs.Frame.{blockEntry}
+use Rattle.frame_segment.specs.Frame.{blockEntry}
 use Rattle.match_rows.specs.Row.{residualAt, rowAt}
 use Rattle.match_sums.specs.Groups.{groupSize, groupSum, byGroups, costTerm, blockTerm, listCost, listBlock}
 use Rattle.plane_moments.specs.Accumulate.{badLengths, framesRefusal, fitOf, underFit, called, framesCall}

@@ -1,4 +1,4 @@
-// A frame's block and vector, worked out of rows of nine numbers and added straight to the Hessian's columns and to the gradient.
+// One mapped frame: its block and vector, worked out of rows of nine numbers and added straight to the Hessian's columns and to the gradient.
 // The loops are small and take the width as it comes: called with a literal width they are unrolled, and the rows stay in registers.
 use derivative::ACTION;
 use derivative::AXIS_X;
@@ -12,8 +12,8 @@ ghost use Prim.Native.Nat.{_+_, _*_, _≤_};
 ghost use lib.ListN.{length};
 ghost use Rattle.terms.specs.Terms.{addAll, segment, block};
 ghost use Rattle.plane_fit.specs.Fit.{frameAt, actionAt};
-ghost use Rattle.frame_blocks.specs.Frame.{blockEntry, pulledEntry};
-ghost use Rattle.frame_blocks.specs.Steps.{columnEntry, rowsEntry, rowsVector, Added, Held};
+ghost use Rattle.frame_segment.specs.Frame.{blockEntry, pulledEntry};
+ghost use Rattle.frame_segment.specs.Steps.{columnEntry, rowsEntry, rowsVector, Added, Held};
 
 // One column of a block is added to the cells from `base` on.
 fn add_column(

@@ -1,4 +1,4 @@
--- `frame_blocks::block::add_vector` meets its contract: after i turns the first i numbers are added. Assumes nothing.
+-- `frame_segment::add_vector` meets its contract: after i turns the first i numbers are added. Assumes nothing.
 use Prim.Native.Nat.{_≤_, _-_}
 use mathlib.Core.Path.{_≡_, refl}
 use mathlib.Core.List.{[], _∷_}
@@ -8,9 +8,9 @@ use lib.ListN.{length, length-set}
 use Rattle.terms.specs.Terms.{addAll, upto, cellAt}
 use Rattle.terms.specs.Laws.{upto-none, segment-more, segment-all}
 use Rattle.derivative.specs.Derivative.{combined}
-use Rattle.frame_blocks.specs.Steps.{rowsVector}
-use Rattle.frame_blocks.proofs.block.add_vector.Statement.{statement}
-use Rattle.frame_blocks.proofs.block.add_vector.Tie as tie
+use Rattle.frame_segment.specs.Steps.{rowsVector}
+use Rattle.frame_segment.proofs.add_vector.Statement.{statement}
+use Rattle.frame_segment.proofs.add_vector.Tie as tie
 
 abbrev Inv-loop : tie.InvT-loop
 Inv-loop g₀ at width t weight d0 d1 d2 m s0 s1 s2 i₀ g i =

@@ -15,7 +15,7 @@ use Rattle.point_moments.specs.declared.scatter.Centred.{Centred}
 use Rattle.point_moments.specs.Scatter.{CENTRED, centredOf}
 use Rattle.plane_fit.specs.Records.{recordOf, record-length}
 use Rattle.plane_fit.specs.Fit.{frameAt, actionAt}
-use Rattle.frame_blocks.specs.Frame.{blockEntry, pulledEntry}
+use Rattle.frame_segment.specs.Frame.{blockEntry, pulledEntry}
 
 -- row i of a column: ((Σ_k p_k(i)·s_k) + (m_i·t)·count)·weight
 unfoldable pub columnEntry : List Float → List Float → List Float → List Float → Float → Float → Float → Float → Float → Float → ℕ → Float

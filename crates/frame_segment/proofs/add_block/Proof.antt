@@ -1,4 +1,4 @@
--- `frame_blocks::block::add_block` meets its contract: after c turns the first c columns are added. Assumes nothing.
+-- `frame_segment::add_block` meets its contract: after c turns the first c columns are added. Assumes nothing.
 use Prim.Native.Nat.{_+_, _-_, _*_, _≤_}
 use mathlib.Core.Path.{_≡_, refl, _∙_}
 use native.Mathlib.Omega.{arith}
@@ -6,9 +6,9 @@ use borrow.Author.Needs.{needs}
 use lib.ListN.{length}
 use Rattle.terms.specs.Terms.{addAll, upto, columnAt}
 use Rattle.terms.specs.Laws.{upto-none, block-more, block-all, column-before}
-use Rattle.frame_blocks.specs.Steps.{rowsEntry}
-use Rattle.frame_blocks.proofs.block.add_block.Statement.{statement}
-use Rattle.frame_blocks.proofs.block.add_block.Tie as tie
+use Rattle.frame_segment.specs.Steps.{rowsEntry}
+use Rattle.frame_segment.proofs.add_block.Statement.{statement}
+use Rattle.frame_segment.proofs.add_block.Tie as tie
 
 abbrev Inv-loop : tie.InvT-loop
 Inv-loop h₀ n at width p0 p1 p2 count weight d0 d1 d2 m c₀ h c =

@@ -1,9 +1,9 @@
--- `frame_blocks::block::add_seven` meets its contract: of the rows that the loops make, block and vector are the frame's. Assumes nothing.
+-- `frame_segment::add_nine` meets its contract: of the rows that the loops make, block and vector are the frame's. Assumes nothing.
 use native.Mathlib.Omega.{arith}
 use borrow.Author.Needs.{needs}
-use Rattle.frame_blocks.specs.Steps.{inside, frame-whole, action-long, adds}
-use Rattle.frame_blocks.proofs.block.add_seven.Statement.{statement}
-use Rattle.frame_blocks.proofs.block.add_seven.Tie as tie
+use Rattle.frame_segment.specs.Steps.{inside, frame-whole, action-long, adds}
+use Rattle.frame_segment.proofs.add_nine.Statement.{statement}
+use Rattle.frame_segment.proofs.add_nine.Tie as tie
 
 add-block-requires : tie.Need-add-block-requires
 add-block-requires c κs =
@@ -29,8 +29,8 @@ returns c =
     (along .shifted-row .ensures) (rows .before .before .combined-row .ensures) (rows .before .combined-row2 .ensures) (rows .combined-row3 .ensures)
     (added .add-block .ensures) (c .before .before .add-vector .ensures)
 
-pub add-seven-spec : {M : Type 1} → statement M
-add-seven-spec =
+pub add-nine-spec : {M : Type 1} → statement M
+add-nine-spec =
     tie.close
     (tie.spec
     (λ c κs. search needs)

@@ -1,8 +1,8 @@
--- `frame_blocks::block::add_at` meets its contract: whichever width was tested for, it is the frame's. Assumes nothing.
+-- `frame_segment::add_at` meets its contract: whichever width was tested for, it is the frame's. Assumes nothing.
 use borrow.Author.Needs.{needs}
-use Rattle.frame_blocks.specs.Steps.{at-width}
-use Rattle.frame_blocks.proofs.block.add_at.Statement.{statement}
-use Rattle.frame_blocks.proofs.block.add_at.Tie as tie
+use Rattle.frame_segment.specs.Steps.{at-width}
+use Rattle.frame_segment.proofs.add_at.Statement.{statement}
+use Rattle.frame_segment.proofs.add_at.Tie as tie
 
 returns : tie.Need-returns
 returns c =

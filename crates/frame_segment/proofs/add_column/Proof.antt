@@ -1,4 +1,4 @@
--- `frame_blocks::block::add_column` meets its contract: after i turns the first i numbers are added. Assumes nothing.
+-- `frame_segment::add_column` meets its contract: after i turns the first i numbers are added. Assumes nothing.
 use Prim.Native.Nat.{_≤_, _-_}
 use mathlib.Core.Path.{_≡_, refl}
 use native.Mathlib.Omega.{arith}
@@ -7,9 +7,9 @@ use lib.ListN.{length, length-set}
 use Rattle.terms.specs.Terms.{addAll, upto, cellAt}
 use Rattle.terms.specs.Laws.{upto-none, segment-more, segment-all}
 use Rattle.derivative.specs.Derivative.{combined}
-use Rattle.frame_blocks.specs.Steps.{columnEntry}
-use Rattle.frame_blocks.proofs.block.add_column.Statement.{statement}
-use Rattle.frame_blocks.proofs.block.add_column.Tie as tie
+use Rattle.frame_segment.specs.Steps.{columnEntry}
+use Rattle.frame_segment.proofs.add_column.Statement.{statement}
+use Rattle.frame_segment.proofs.add_column.Tie as tie
 
 abbrev Inv-loop : tie.InvT-loop
 Inv-loop h₀ base width s0 s1 s2 t count weight p0 p1 p2 m i₀ h i =

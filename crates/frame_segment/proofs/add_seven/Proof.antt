@@ -1,20 +1,21 @@
--- `frame_blocks::block::add_other` meets its contract: of the rows that the loops make, block and vector are the frame's. Assumes nothing.
+-- `frame_segment::add_seven` meets its contract: of the rows that the loops make, block and vector are the frame's. Assumes nothing.
+use native.Mathlib.Omega.{arith}
 use borrow.Author.Needs.{needs}
-use Rattle.frame_blocks.specs.Steps.{inside, frame-whole, action-long, adds}
-use Rattle.frame_blocks.proofs.block.add_other.Statement.{statement}
-use Rattle.frame_blocks.proofs.block.add_other.Tie as tie
+use Rattle.frame_segment.specs.Steps.{inside, frame-whole, action-long, adds}
+use Rattle.frame_segment.proofs.add_seven.Statement.{statement}
+use Rattle.frame_segment.proofs.add_seven.Tie as tie
 
 add-block-requires : tie.Need-add-block-requires
 add-block-requires c κs =
     let read = c .before .before .before .before .before .before .before .before .before .before .before in
     let pre = read .before .before .before .before .before .before .before .pre in
-    (pre .0, pre .1, pre .2)
+    (omega arith, pre .0, pre .1)
 
 add-vector-requires : tie.Need-add-vector-requires
 add-vector-requires c κs =
     let made = c .before .before .before .before .before .before .before .before .before .before .before .before in
     let pre = made .before .before .before .before .before .before .before .before .before .before .pre in
-    (pre .0, inside (pre .1) (pre .3))
+    (omega arith, inside (pre .0) (pre .2))
 
 returns : tie.Need-returns
 returns c =
@@ -28,8 +29,8 @@ returns c =
     (along .shifted-row .ensures) (rows .before .before .combined-row .ensures) (rows .before .combined-row2 .ensures) (rows .combined-row3 .ensures)
     (added .add-block .ensures) (c .before .before .add-vector .ensures)
 
-pub add-other-spec : {M : Type 1} → statement M
-add-other-spec =
+pub add-seven-spec : {M : Type 1} → statement M
+add-seven-spec =
     tie.close
     (tie.spec
     (λ c κs. search needs)
@@ -43,15 +44,15 @@ add-other-spec =
     (λ c. search needs)
     (λ c. search needs)
     (λ c. search needs)
-    (λ c κs. c .before .before .before .before .before .before .before .before .before .before .before .before .before .before .pre .0)
+    (λ c κs. search needs)
     (λ c. search needs)
     (λ c. search needs)
     (λ c. search needs)
-    (λ c κs. c .before .before .before .before .before .before .before .before .before .before .before .before .before .before .before .pre .0)
+    (λ c κs. search needs)
     (λ c. search needs)
     (λ c. search needs)
     (λ c. search needs)
-    (λ c κs. c .before .before .before .before .before .before .before .before .before .before .before .before .before .before .before .before .pre .0)
+    (λ c κs. search needs)
     add-block-requires
     add-vector-requires
     (λ c. search needs)

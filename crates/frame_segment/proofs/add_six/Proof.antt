@@ -1,9 +1,9 @@
--- `frame_blocks::block::add_six` meets its contract: of the rows that the loops make, block and vector are the frame's. Assumes nothing.
+-- `frame_segment::add_six` meets its contract: of the rows that the loops make, block and vector are the frame's. Assumes nothing.
 use native.Mathlib.Omega.{arith}
 use borrow.Author.Needs.{needs}
-use Rattle.frame_blocks.specs.Steps.{inside, frame-whole, action-long, adds}
-use Rattle.frame_blocks.proofs.block.add_six.Statement.{statement}
-use Rattle.frame_blocks.proofs.block.add_six.Tie as tie
+use Rattle.frame_segment.specs.Steps.{inside, frame-whole, action-long, adds}
+use Rattle.frame_segment.proofs.add_six.Statement.{statement}
+use Rattle.frame_segment.proofs.add_six.Tie as tie
 
 add-block-requires : tie.Need-add-block-requires
 add-block-requires c κs =
