@@ -7,7 +7,11 @@ use oracle::groups::{
     root_steps, scatter, sigma, sqrt,
 };
 use oracle::report::Report;
+use std::collections::BTreeMap;
 use std::process::ExitCode;
+use std::sync::atomic::{AtomicUsize, Ordering};
+use std::sync::mpsc;
+use std::thread;
 
 struct Group {
     name: &'static str,
@@ -132,18 +136,48 @@ fn main() -> ExitCode {
     };
     println!("seed {}", arguments.seed);
     let mut mismatches = 0;
-    for group in arguments.groups {
-        let mut generator = Generator::named(arguments.seed, group.name);
-        let mut report = Report::new(group.name);
-        (group.run)(&mut generator, arguments.count, &mut report);
+    run(&arguments, |report| {
         report.print();
         mismatches += report.mismatches();
-    }
+    });
     if mismatches == 0 {
         ExitCode::SUCCESS
     } else {
         ExitCode::FAILURE
     }
+}
+
+/// Runs the groups on all processors, since each draws from a generator of its own, and hands over their reports in the groups' order.
+fn run(arguments: &Arguments, mut take: impl FnMut(Report)) {
+    let workers = thread::available_parallelism().map_or(1, |number| number.get());
+    let next = AtomicUsize::new(0);
+    let (send, receive) = mpsc::channel();
+    thread::scope(|scope| {
+        for _ in 0..workers {
+            let (send, next) = (send.clone(), &next);
+            scope.spawn(move || loop {
+                let index = next.fetch_add(1, Ordering::Relaxed);
+                let Some(group) = arguments.groups.get(index) else {
+                    return;
+                };
+                let mut generator = Generator::named(arguments.seed, group.name);
+                let mut report = Report::new(group.name);
+                (group.run)(&mut generator, arguments.count, &mut report);
+                send.send((index, report))
+                    .expect("somebody takes the reports");
+            });
+        }
+        drop(send);
+        let mut waiting = BTreeMap::new();
+        let mut taken = 0;
+        for (index, report) in receive {
+            waiting.insert(index, report);
+            while let Some(report) = waiting.remove(&taken) {
+                take(report);
+                taken += 1;
+            }
+        }
+    });
 }
 
 fn parse(words: &[String]) -> Result<Arguments, String> {
@@ -214,6 +248,16 @@ mod tests {
         let names: Vec<_> = arguments.groups.iter().map(|group| group.name).collect();
         assert_eq!(names, ["order", "sqrt"]);
         assert_eq!(arguments.seed, 9);
+    }
+
+    #[test]
+    fn reports_come_in_the_order_of_the_groups() {
+        let arguments = parsed(&["remap", "number", "order", "--count", "9"])
+            .ok()
+            .unwrap();
+        let mut names = Vec::new();
+        run(&arguments, |report| names.push(report.group()));
+        assert_eq!(names, ["remap", "number", "order"]);
     }
 
     #[test]

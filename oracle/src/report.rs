@@ -20,6 +20,11 @@ impl Report {
         }
     }
 
+    /// The group's name.
+    pub fn group(&self) -> &'static str {
+        self.group
+    }
+
     /// Counts a case. One that does not agree is described and printed, unless enough were.
     pub fn check(&mut self, agrees: bool, describe: impl FnOnce() -> String) {
         self.cases += 1;

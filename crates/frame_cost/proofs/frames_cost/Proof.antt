@@ -27,7 +27,7 @@ fill-costs-requires c κs =
 with-costs-requires : tie.Need-with-costs-requires Inv-loop μ-loop
 with-costs-requires c κs =
     let b = c .before .before .before in
-    batch-fits (b .batch-size .ensures) (b .before .loop-test .taken) (omega arith) .1
+    omega (arith, batch-fits (b .batch-size .ensures) (b .before .loop-test .taken) (omega arith))
 
 add-from : tie.Need-add-from Inv-loop μ-loop
 add-from c =
