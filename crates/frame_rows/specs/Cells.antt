@@ -1,6 +1,6 @@
 -- Where the blocks of the Jacobian lie, and how it fills up with them, batch after batch, over +0. Assumes nothing.
 use Prim.Native.Nat.{ℕ, zero, suc, _+_, _-_, _*_, _/_, _%_, _<_, _≤_}
-use native.Mathlib.Nat.{add-mul, mul-add, mul-assoc, mul-zero, add-mul-div-right, mul-add-mod-self-right, div-eq-of-lt, mod-eq-of-lt, mod-lt, div-add-mod', div-lt-iff-lt-mul, add-comm, mul-le-mul-right, zero-add, suc-mul, not-suc-le-zero}
+use native.Mathlib.Nat.{add-mul, mul-add, mul-assoc, mul-zero, mod-lt, div-add-mod', div-lt-iff-lt-mul, mul-le-mul-right, suc-mul, not-suc-le-zero}
 use native.Mathlib.Omega.{arith}
 use mathlib.Core.Path.{_≡_, refl, sym, ap, ap₂, _∙_}
 use mathlib.Core.List.{List}
@@ -14,30 +14,22 @@ use Rattle.sums.specs.Sum.{zeroF, grid}
 use Rattle.sums.specs.Laws.{length-grid, at-grid, off-add, cell}
 use Rattle.sums.specs.Fill.{written, length-written, written-before, written-inside, written-after, column-ends}
 use Rattle.lists.specs.Part.{_!_}
+use Rattle.batches.specs.Beside.{number-at, thing-at}
 use Rattle.frame_rows.specs.Rows.{blockCell, jacobianCell}
 use Rattle.frame_rows.specs.Steps.{putColumns, putBlocks}
 
--- column f·dof + c is column c of frame f
-module _ (dof f c : ℕ) (inside : c < dof) where
-  pub column-frame : (f * dof + c) / dof ≡ f
-  column-frame =
-      ap (λ i. i / dof) (add-comm (f * dof) c) ∙ add-mul-div-right c f (omega arith) ∙ ap (λ q. q + f) (div-eq-of-lt inside) ∙ zero-add f
+-- column f·dof + c is column c of frame f: the cell of a block, and one beside it
+module _ (dof f c : ℕ) (inside : c < dof) (frames actions : List Float) (ds : List ℕ) (n : List Float) (info : Float) where
+  pub block-is : (k : ℕ) → k < 4 → jacobianCell frames actions ds n info dof (f * 4 + k) (f * dof + c) ≡ blockCell frames actions ds n info f c k
+  unfolding jacobianCell
+  block-is k h =
+      let d : (f * 4 + k) / 4 ≡ f = omega arith in
+      let m : (f * 4 + k) % 4 ≡ k = omega arith in
+      rw (number-at dof f c inside, thing-at dof f c inside, d, m, eq-eqb f f refl)
 
-  pub column-place : (f * dof + c) % dof ≡ c
-  column-place = mul-add-mod-self-right f dof c ∙ mod-eq-of-lt inside
-
-  module _ (frames actions : List Float) (ds : List ℕ) (n : List Float) (info : Float) where
-    -- the cell of a block, and one beside it
-    pub block-is : (k : ℕ) → k < 4 → jacobianCell frames actions ds n info dof (f * 4 + k) (f * dof + c) ≡ blockCell frames actions ds n info f c k
-    unfolding jacobianCell
-    block-is k h =
-        let d : (f * 4 + k) / 4 ≡ f = omega arith in
-        let m : (f * 4 + k) % 4 ≡ k = omega arith in
-        rw (column-frame, column-place, d, m, eq-eqb f f refl)
-
-    pub beside-is : (row : ℕ) → (row / 4 ≡ f → ⊥) → jacobianCell frames actions ds n info dof row (f * dof + c) ≡ zeroF
-    unfolding jacobianCell
-    beside-is row h = rw (column-frame, ne-eqb (row / 4) f h)
+  pub beside-is : (row : ℕ) → (row / 4 ≡ f → ⊥) → jacobianCell frames actions ds n info dof row (f * dof + c) ≡ zeroF
+  unfolding jacobianCell
+  beside-is row h = rw (number-at dof f c inside, ne-eqb (row / 4) f h)
 
 -- column c of the k-th block of a batch lies where that of its frame does
 pub block-place : (from k dof c rows : ℕ) → (from * dof + c) * rows + from * 4 + k * (dof * rows + 4) ≡ ((from + k) * dof + c) * rows + (from + k) * 4

@@ -18,9 +18,10 @@ use Rattle.plane_fit.specs.Fit.{frameAt, actionAt, frameCount}
 use Rattle.frame_normal.specs.Normal.{normalIn, alongOf}
 use Rattle.frame_rows.specs.Rows.{setRow, decompositionAt, frameRow, fixedRow, blockCell}
 use Rattle.frame_rows.specs.Steps.{rootOf, rowsOf}
-use Rattle.frame_rows.specs.Batch.{residualRows, columnRows, BatchRoom}
+use Rattle.frame_rows.specs.Batch.{rootAt, residualRows, columnRows, BatchRoom}
 use Rattle.frame_rows.specs.Cells.{block-place}
 use Rattle.frame_rows.specs.declared.Root.{Root}
+use Rattle.frame_rows.specs.declared.Fitted.{Fitted}
 
 -- the four rows of a set
 pub four-is : (d : List ℕ) (count : Float) (v : List Float) (s info : Float) (k : ℕ) → k < 4 → rowsOf (rootOf d count) v s info ! k ≡ setRow d count v s info k
@@ -33,18 +34,18 @@ four-is d count v s info (suc (suc (suc (suc k)))) h =
     absurd (not-suc-le-zero (le-of-suc-le-suc (le-of-suc-le-suc (le-of-suc-le-suc (le-of-suc-le-suc h)))))
 
 -- of frame f, by its root
-module _ (frames actions : List Float) (ds : List ℕ) (n : List Float) (info : Float) (f : ℕ) (root : Root) (rooted : root ≡ rootOf (decompositionAt ds (f + 1)) (frameAt frames f .count)) where
-  pub frame-four : (offset : Float) (r : ℕ) → r < 4 → residualRows frames actions n offset info root f ! r ≡ frameRow frames actions ds n offset info r f
+module _ (frames actions : List Float) (ds : List ℕ) (p : Fitted) (f : ℕ) (root : Root) (rooted : root ≡ rootAt frames ds f) where
+  pub frame-four : (r : ℕ) → r < 4 → residualRows frames actions p root f ! r ≡ frameRow frames actions ds (p .normal) (p .offset) (p .info) r f
   unfolding frameRow
-  frame-four offset r h =
-      ap (λ (q : Root). residualRows frames actions n offset info q f ! r) rooted
-      ∙ four-is (decompositionAt ds (f + 1)) (frameAt frames f .count) (normalIn (actionAt actions f) n) (alongOf n offset (carried (actionAt actions f) (frameAt frames f .mean))) info r h
+  frame-four r h =
+      ap (λ (q : Root). residualRows frames actions p q f ! r) rooted
+      ∙ four-is (decompositionAt ds (f + 1)) (frameAt frames f .count) (normalIn (actionAt actions f) (p .normal)) (alongOf (p .normal) (p .offset) (carried (actionAt actions f) (frameAt frames f .mean))) (p .info) r h
 
-  pub block-four : (c r : ℕ) → r < 4 → columnRows frames actions n info c root f ! r ≡ blockCell frames actions ds n info f c r
+  pub block-four : (c r : ℕ) → r < 4 → columnRows frames actions p c root f ! r ≡ blockCell frames actions ds (p .normal) (p .info) f c r
   unfolding blockCell
   block-four c r h =
-      ap (λ (q : Root). columnRows frames actions n info c q f ! r) rooted
-      ∙ four-is (decompositionAt ds (f + 1)) (frameAt frames f .count) (tab 3 (λ l. dAn (actionAt actions f) n l c)) (dAlong (actionAt actions f) n (frameAt frames f .mean) c) info r h
+      ap (λ (q : Root). columnRows frames actions p c q f ! r) rooted
+      ∙ four-is (decompositionAt ds (f + 1)) (frameAt frames f .count) (tab 3 (λ l. dAn (actionAt actions f) (p .normal) l c)) (dAlong (actionAt actions f) (p .normal) (frameAt frames f .mean) c) (p .info) r h
 
 -- of the fixed set, or where there is none
 never : {n : ℕ} → suc n ≡ 0 → ⊥

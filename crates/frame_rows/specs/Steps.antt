@@ -15,6 +15,7 @@ use Rattle.point_moments.specs.Scatter.{CENTRED}
 use Rattle.plane_fit.specs.Fit.{frameCount}
 use Rattle.frame_rows.specs.Rows.{rootRow, frameRow, jacobianOf}
 use Rattle.frame_rows.specs.declared.Root.{Root}
+use Rattle.frame_rows.specs.declared.Fitted.{Fitted}
 
 -- the three rows of R, and sqrt(count)
 abbrev pub rootOf : List ℕ → Float → Root
@@ -54,6 +55,6 @@ pub record FixedRoom (fixed : List Float) (ds : List ℕ) (count residuals : ℕ
   pub residual-whole : residuals ≡ (count + 1) * 4
 
 -- all frames' residuals, before the fixed set's; and their blocks
-pub record FramesWritten (frames actions : List Float) (ds : List ℕ) (n : List Float) (offset info : Float) (width : ℕ) (residual residual′ jacobian′ : List Float) : Type 0 where
-  pub residual-is : residual′ ≡ grid 4 (frameCount frames) (frameRow frames actions ds n offset info) ++ drop (frameCount frames * 4) residual
-  pub jacobian-is : jacobian′ ≡ jacobianOf frames actions ds n info width
+pub record FramesWritten (frames actions : List Float) (ds : List ℕ) (p : Fitted) (width : ℕ) (residual residual′ jacobian′ : List Float) : Type 0 where
+  pub residual-is : residual′ ≡ grid 4 (frameCount frames) (frameRow frames actions ds (p .normal) (p .offset) (p .info)) ++ drop (frameCount frames * 4) residual
+  pub jacobian-is : jacobian′ ≡ jacobianOf frames actions ds (p .normal) (p .info) width

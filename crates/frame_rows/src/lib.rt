@@ -1,18 +1,18 @@
 // A frame factor linearized at a plane: the root of each set's scatter, the residuals, and the Jacobian's blocks.
 ghost use mathlib.Core.Path.{_≡_};
 ghost use Prim.Native.Nat.{ℕ, _+_, _*_, _≤_, _<_};
-ghost use lib.ListN.{length, getD, replicate};
-ghost use lib.Ieee.{nan};
+ghost use lib.ListN.{length, replicate};
 ghost use Rattle.sums.specs.Sum.{zeroF};
 ghost use Rattle.sums.specs.Fill.{written};
 ghost use Rattle.lists.specs.Part.{_!_};
+ghost use Rattle.batches.specs.Beside.{besideOf, putBeside, Beside};
 ghost use Rattle.decomposition.specs.Axes.{DECOMPOSITION};
 ghost use Rattle.derivative.specs.Action.{actionSize};
 ghost use Rattle.point_moments.specs.Scatter.{CENTRED};
 ghost use Rattle.plane_fit.specs.Fit.{frameCount};
 ghost use Rattle.frame_rows.specs.Rows.{scaleOf, rootRow, decompositionAt, fixedRow, residualOf, jacobianOf};
 ghost use Rattle.frame_rows.specs.Steps.{rootOf, rowsOf, columnOf, putColumns, putBlocks, Room, FixedRoom, FramesWritten};
-ghost use Rattle.frame_rows.specs.Batch.{BATCH, THREES, FOURS, threeIn, rowsIn, rootIn, withThree, withRows, residualRows, columnRows, BatchRoom, Rooted, Held};
+ghost use Rattle.frame_rows.specs.Batch.{BATCH, ROOTS, FOURS, numbersOf, rootIn, residualRows, columnRows, BatchRoom, Rooted};
 use decomposition::DECOMPOSITION;
 use derivative::ACTION;
 use point_moments::scatter::CENTRED;
@@ -76,6 +76,13 @@ impl Root {
     }
 }
 
+// A fitted plane, and the 1 / sigma that rows are scaled by.
+pub struct Fitted {
+    pub normal: [f64; 3],
+    pub offset: f64,
+    pub info: f64,
+}
+
 // Decomposition k of a list.
 pub fn decomposition_at(ds: &[u64], k: usize) -> &[u64]
     requires { ⌜ k * DECOMPOSITION + DECOMPOSITION ≤ length (now ds) ⌝ }
@@ -121,77 +128,66 @@ fn column(x: &[f64], n: [f64; 3], mean: [f64; 3], root: Root, info: f64, c: usiz
 // How many frames' rows are worked out before they are stored.
 const BATCH: usize = 8;
 
-// Puts three numbers into those of a batch as those of its k-th frame.
-fn put_three(cells: &mut [f64; 24], k: usize, v: [f64; 3])
-    requires { ⌜ (k < BATCH) × (length (now cells) ≡ THREES) ⌝ }
-    ensures { λ _. ⌜ now (cells .exit) ≡ withThree (now (cells .entry)) k v ⌝ }
+// Puts a root into those of a batch as that of its k-th frame.
+fn put_root(roots: &mut [f64; 80], k: usize, root: Root)
+    requires { ⌜ (k < BATCH) × (length (now roots) ≡ ROOTS) ⌝ }
+    ensures { λ _. ⌜ now (roots .exit) ≡ putBeside BATCH 10 (now (roots .entry)) k (numbersOf root) ⌝ }
 {
-    cells[k] = v[0];
-    cells[BATCH + k] = v[1];
-    cells[2 * BATCH + k] = v[2];
-}
-
-// The three numbers of the k-th frame of a batch.
-fn three_at(cells: &[f64; 24], k: usize) -> [f64; 3]
-    requires { ⌜ k < BATCH ⌝ }
-    ensures { λ r. ⌜ r ≡ threeIn (now (cells .entry)) k ⌝ }
-{
-    [cells[k], cells[BATCH + k], cells[2 * BATCH + k]]
+    let a = root.first;
+    let b = root.second;
+    let c = root.third;
+    roots[k] = a[0];
+    roots[BATCH + k] = a[1];
+    roots[2 * BATCH + k] = a[2];
+    roots[3 * BATCH + k] = b[0];
+    roots[4 * BATCH + k] = b[1];
+    roots[5 * BATCH + k] = b[2];
+    roots[6 * BATCH + k] = c[0];
+    roots[7 * BATCH + k] = c[1];
+    roots[8 * BATCH + k] = c[2];
+    roots[9 * BATCH + k] = root.last;
 }
 
 // The roots of a batch of frames from frame `from` on, number after number: number e of the batch's k-th frame stands at e * BATCH + k.
-fn fill_roots(
-    frames: &[f64],
-    ds: &[u64],
-    from: usize,
-    size: usize,
-    first: &mut [f64; 24],
-    second: &mut [f64; 24],
-    third: &mut [f64; 24],
-    last: &mut [f64; 8],
-)
-    requires { ⌜ (size ≤ BATCH) × (length (now first) ≡ THREES) × (length (now second) ≡ THREES) × (length (now third) ≡ THREES) × (length (now last) ≡ BATCH) × (CENTRED * (from + size) ≤ length (now frames)) × ((from + size + 1) * DECOMPOSITION ≤ length (now ds)) ⌝ }
-    ensures { λ _. ⌜ Rooted (now (frames .entry)) (now (ds .entry)) from size (now (first .exit)) (now (second .exit)) (now (third .exit)) (now (last .exit)) ⌝ }
+fn fill_roots(frames: &[f64], ds: &[u64], from: usize, size: usize, roots: &mut [f64; 80])
+    requires { ⌜ (size ≤ BATCH) × (length (now roots) ≡ ROOTS) × (CENTRED * (from + size) ≤ length (now frames)) × ((from + size + 1) * DECOMPOSITION ≤ length (now ds)) ⌝ }
+    ensures { λ _. ⌜ Rooted (now (frames .entry)) (now (ds .entry)) from size (now (roots .exit)) ⌝ }
 {
     for k in 0..size {
         let f = Centred::from_list(plane_fit::whole_at(frames, CENTRED, from + k));
         let root = Root::of(decomposition_at(ds, from + k + 1), f.count);
-        let a = root.first;
-        let b = root.second;
-        let c = root.third;
-        put_three(first, k, a);
-        put_three(second, k, b);
-        put_three(third, k, c);
-        last[k] = root.last;
+        put_root(roots, k, root);
     }
 }
 
 // The root of the k-th frame of a batch.
-fn root_at(
-    first: &[f64; 24],
-    second: &[f64; 24],
-    third: &[f64; 24],
-    last: &[f64; 8],
-    k: usize,
-) -> Root
+fn root_at(roots: &[f64; 80], k: usize) -> Root
     requires { ⌜ k < BATCH ⌝ }
-    ensures { λ r. ⌜ r ≡ rootIn (now (first .entry)) (now (second .entry)) (now (third .entry)) (now (last .entry)) k ⌝ }
+    ensures { λ r. ⌜ r ≡ rootIn (now (roots .entry)) k ⌝ }
 {
-    let a = three_at(first, k);
-    let b = three_at(second, k);
-    let c = three_at(third, k);
+    let a = [roots[k], roots[BATCH + k], roots[2 * BATCH + k]];
+    let b = [
+        roots[3 * BATCH + k],
+        roots[4 * BATCH + k],
+        roots[5 * BATCH + k],
+    ];
+    let c = [
+        roots[6 * BATCH + k],
+        roots[7 * BATCH + k],
+        roots[8 * BATCH + k],
+    ];
     Root {
         first: a,
         second: b,
         third: c,
-        last: last[k],
+        last: roots[9 * BATCH + k],
     }
 }
 
 // Puts four rows into those of a batch as those of its k-th frame.
 fn put_rows(cells: &mut [f64; 32], k: usize, v: [f64; 4])
     requires { ⌜ (k < BATCH) × (length (now cells) ≡ FOURS) ⌝ }
-    ensures { λ _. ⌜ now (cells .exit) ≡ withRows (now (cells .entry)) k v ⌝ }
+    ensures { λ _. ⌜ now (cells .exit) ≡ putBeside BATCH 4 (now (cells .entry)) k v ⌝ }
 {
     cells[k] = v[0];
     cells[BATCH + k] = v[1];
@@ -205,29 +201,21 @@ fn fill_residuals(
     actions: &[f64],
     from: usize,
     size: usize,
-    first: &[f64; 24],
-    second: &[f64; 24],
-    third: &[f64; 24],
-    last: &[f64; 8],
-    n: [f64; 3],
-    offset: f64,
-    info: f64,
+    roots: &[f64; 80],
+    p: Fitted,
     cells: &mut [f64; 32],
 )
     requires { ⌜ (size ≤ BATCH) × (length (now cells) ≡ FOURS) × (CENTRED * (from + size) ≤ length (now frames)) × (actionSize * (from + size) ≤ length (now actions)) ⌝ }
-    ensures { λ _. ⌜ Held (λ k. residualRows (now (frames .entry)) (now (actions .entry)) n offset info (rootIn (now (first .entry)) (now (second .entry)) (now (third .entry)) (now (last .entry)) k) (from + k)) size (now (cells .exit)) ⌝ }
+    ensures { λ _. ⌜ Beside BATCH 4 (λ k. residualRows (now (frames .entry)) (now (actions .entry)) p (rootIn (now (roots .entry)) k) (from + k)) size (now (cells .exit)) ⌝ }
 {
     for k in 0..size {
         let f = Centred::from_list(plane_fit::whole_at(frames, CENTRED, from + k));
         let x = plane_fit::whole_at(actions, ACTION, from + k);
         let mean = f.mean;
-        let along = frame_normal::along(n, offset, action::carried(x, mean));
-        let root = root_at(first, second, third, last, k);
-        put_rows(
-            cells,
-            k,
-            root.rows(frame_normal::normal_in(x, n), along, info),
-        );
+        let n = p.normal;
+        let along = frame_normal::along(n, p.offset, action::carried(x, mean));
+        let v = frame_normal::normal_in(x, n);
+        put_rows(cells, k, root_at(roots, k).rows(v, along, p.info));
     }
 }
 
@@ -237,31 +225,27 @@ fn fill_column(
     actions: &[f64],
     from: usize,
     size: usize,
-    first: &[f64; 24],
-    second: &[f64; 24],
-    third: &[f64; 24],
-    last: &[f64; 8],
-    n: [f64; 3],
-    info: f64,
+    roots: &[f64; 80],
+    p: Fitted,
     c: usize,
     cells: &mut [f64; 32],
 )
     requires { ⌜ (c < 9) × (size ≤ BATCH) × (length (now cells) ≡ FOURS) × (CENTRED * (from + size) ≤ length (now frames)) × (actionSize * (from + size) ≤ length (now actions)) ⌝ }
-    ensures { λ _. ⌜ Held (λ k. columnRows (now (frames .entry)) (now (actions .entry)) n info c (rootIn (now (first .entry)) (now (second .entry)) (now (third .entry)) (now (last .entry)) k) (from + k)) size (now (cells .exit)) ⌝ }
+    ensures { λ _. ⌜ Beside BATCH 4 (λ k. columnRows (now (frames .entry)) (now (actions .entry)) p c (rootIn (now (roots .entry)) k) (from + k)) size (now (cells .exit)) ⌝ }
 {
     for k in 0..size {
         let f = Centred::from_list(plane_fit::whole_at(frames, CENTRED, from + k));
         let x = plane_fit::whole_at(actions, ACTION, from + k);
         let mean = f.mean;
-        let root = root_at(first, second, third, last, k);
-        put_rows(cells, k, column(x, n, mean, root, info, c));
+        let n = p.normal;
+        put_rows(cells, k, column(x, n, mean, root_at(roots, k), p.info, c));
     }
 }
 
 // Stores the four rows of each frame of a batch, from a place on and `stride` apart.
 fn store_rows(out: &mut [f64], at: usize, stride: usize, size: usize, cells: &[f64; 32])
     requires { ⌜ (size ≤ BATCH) × ((k : ℕ) → k < size → at + k * stride + 4 ≤ length (now out)) ⌝ }
-    ensures { λ _. ⌜ now (out .exit) ≡ putColumns (now (out .entry)) at stride (λ k r. rowsIn (now (cells .entry)) k ! r) size ⌝ }
+    ensures { λ _. ⌜ now (out .exit) ≡ putColumns (now (out .entry)) at stride (λ k r. besideOf BATCH 4 (now (cells .entry)) k ! r) size ⌝ }
 {
     for k in 0..size {
         let v = [
@@ -280,42 +264,20 @@ fn write_columns(
     actions: &[f64],
     from: usize,
     size: usize,
-    first: &[f64; 24],
-    second: &[f64; 24],
-    third: &[f64; 24],
-    last: &[f64; 8],
-    n: [f64; 3],
-    info: f64,
+    roots: &[f64; 80],
+    p: Fitted,
     width: usize,
     rows: usize,
     jacobian: &mut [f64],
 )
     requires { ⌜ BatchRoom (now frames) (now actions) from size width rows (length (now jacobian)) ⌝ }
-    ensures { λ _. ⌜ now (jacobian .exit) ≡ putBlocks (now (jacobian .entry)) from width rows size (λ c k r. columnRows (now (frames .entry)) (now (actions .entry)) n info c (rootIn (now (first .entry)) (now (second .entry)) (now (third .entry)) (now (last .entry)) k) (from + k) ! r) width ⌝ }
+    ensures { λ _. ⌜ now (jacobian .exit) ≡ putBlocks (now (jacobian .entry)) from width rows size (λ c k r. columnRows (now (frames .entry)) (now (actions .entry)) p c (rootIn (now (roots .entry)) k) (from + k) ! r) width ⌝ }
 {
     let mut cells = [0.0; 32];
     for c in 0..width {
-        fill_column(
-            frames,
-            actions,
-            from,
-            size,
-            first,
-            second,
-            third,
-            last,
-            n,
-            info,
-            c,
-            &mut cells,
-        );
-        store_rows(
-            jacobian,
-            (from * width + c) * rows + from * 4,
-            width * rows + 4,
-            size,
-            &cells,
-        );
+        fill_column(frames, actions, from, size, roots, p, c, &mut cells);
+        let at = (from * width + c) * rows + from * 4;
+        store_rows(jacobian, at, width * rows + 4, size, &cells);
     }
 }
 
@@ -324,62 +286,31 @@ fn write_frames(
     frames: &[f64],
     actions: &[f64],
     ds: &[u64],
-    n: [f64; 3],
-    offset: f64,
-    info: f64,
+    p: Fitted,
     width: usize,
     residual: &mut [f64],
     jacobian: &mut [f64],
 )
     requires { ⌜ (now jacobian ≡ replicate (length (now jacobian)) zeroF) × Room (now frames) (now actions) (now ds) (length (now residual)) (length (now jacobian)) width ⌝ }
-    ensures { λ _. ⌜ FramesWritten (now (frames .entry)) (now (actions .entry)) (now (ds .entry)) n offset info width (now (residual .entry)) (now (residual .exit)) (now (jacobian .exit)) ⌝ }
+    ensures { λ _. ⌜ FramesWritten (now (frames .entry)) (now (actions .entry)) (now (ds .entry)) p width (now (residual .entry)) (now (residual .exit)) (now (jacobian .exit)) ⌝ }
 {
     let count = frames.len() / CENTRED;
     let rows = residual.len();
-    let mut first = [0.0; 24];
-    let mut second = [0.0; 24];
-    let mut third = [0.0; 24];
-    let mut last = [0.0; 8];
+    let mut roots = [0.0; 80];
     let mut cells = [0.0; 32];
     let mut from = 0;
     while from < count {
         let size = lists::batch_size(count, from, BATCH);
-        fill_roots(
-            frames,
-            ds,
-            from,
-            size,
-            &mut first,
-            &mut second,
-            &mut third,
-            &mut last,
-        );
-        fill_residuals(
-            frames,
-            actions,
-            from,
-            size,
-            &first,
-            &second,
-            &third,
-            &last,
-            n,
-            offset,
-            info,
-            &mut cells,
-        );
+        fill_roots(frames, ds, from, size, &mut roots);
+        fill_residuals(frames, actions, from, size, &roots, p, &mut cells);
         store_rows(residual, from * 4, 4, size, &cells);
         write_columns(
             frames,
             actions,
             from,
             size,
-            &first,
-            &second,
-            &third,
-            &last,
-            n,
-            info,
+            &roots,
+            p,
             width,
             rows,
             jacobian,
@@ -389,17 +320,9 @@ fn write_frames(
 }
 
 // The four residuals of the fixed set after so many frames, +0 where there is none.
-fn write_fixed(
-    fixed: &[f64],
-    ds: &[u64],
-    count: usize,
-    n: [f64; 3],
-    offset: f64,
-    info: f64,
-    residual: &mut [f64],
-)
+fn write_fixed(fixed: &[f64], ds: &[u64], count: usize, p: Fitted, residual: &mut [f64])
     requires { ⌜ FixedRoom (now fixed) (now ds) count (length (now residual)) ⌝ }
-    ensures { λ _. ⌜ now (residual .exit) ≡ written (now (residual .entry)) (count * 4) 4 (fixedRow count (now (fixed .entry)) (now (ds .entry)) n offset info) ⌝ }
+    ensures { λ _. ⌜ now (residual .exit) ≡ written (now (residual .entry)) (count * 4) 4 (fixedRow count (now (fixed .entry)) (now (ds .entry)) (p .normal) (p .offset) (p .info)) ⌝ }
 {
     let at = count * 4;
     if fixed.len() == 0 {
@@ -409,11 +332,9 @@ fn write_fixed(
     let f = Centred::from_list(fixed);
     let root = Root::of(decomposition_at(ds, count + 1), f.count);
     let mean = f.mean;
-    put_four(
-        residual,
-        at,
-        root.rows(n, frame_normal::along(n, offset, mean), info),
-    );
+    let n = p.normal;
+    let along = frame_normal::along(n, p.offset, mean);
+    put_four(residual, at, root.rows(n, along, p.info));
 }
 
 // All residuals, and all blocks into a Jacobian that is +0 everywhere.
@@ -432,16 +353,11 @@ pub fn write_all(
     requires { ⌜ (now jacobian ≡ replicate (length (now jacobian)) zeroF) × Room (now frames) (now actions) (now ds) (length (now residual)) (length (now jacobian)) width × FixedRoom (now fixed) (now ds) (frameCount (now frames)) (length (now residual)) ⌝ }
     ensures { λ _. ⌜ (now (residual .exit) ≡ residualOf (now (frames .entry)) (now (fixed .entry)) (now (actions .entry)) (now (ds .entry)) n offset info) × (now (jacobian .exit) ≡ jacobianOf (now (frames .entry)) (now (actions .entry)) (now (ds .entry)) n info width) ⌝ }
 {
-    write_frames(
-        frames,
-        actions,
-        ds,
-        n,
+    let p = Fitted {
+        normal: n,
         offset,
         info,
-        width,
-        residual,
-        jacobian,
-    );
-    write_fixed(fixed, ds, frames.len() / CENTRED, n, offset, info, residual);
+    };
+    write_frames(frames, actions, ds, p, width, residual, jacobian);
+    write_fixed(fixed, ds, frames.len() / CENTRED, p, residual);
 }

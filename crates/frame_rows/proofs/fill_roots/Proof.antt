@@ -1,25 +1,23 @@
 -- `frame_rows::fill_roots` meets its contract: after k turns the roots of the batch's first k frames are there. Assumes nothing.
 use Prim.Native.Nat.{_+_, _≤_, _-_}
-use mathlib.Core.Path.{_≡_, refl}
+use mathlib.Core.Path.{_≡_}
 use native.Mathlib.Omega.{arith}
 use borrow.Author.Needs.{needs}
-use Rattle.plane_fit.specs.Fit.{frameAt}
+use Rattle.batches.specs.Beside.{beside-none}
 use Rattle.plane_fit.specs.Records.{record-length}
-use Rattle.frame_rows.specs.Rows.{decompositionAt}
-use Rattle.frame_rows.specs.Steps.{rootOf}
-use Rattle.frame_rows.specs.Batch.{Rooted, rooted-none, rooted-more}
+use Rattle.frame_rows.specs.Batch.{rootAt, Rooted, rooted-more}
 use Rattle.frame_rows.specs.Frames.{decomposition-whole}
 use Rattle.frame_rows.proofs.fill_roots.Statement.{statement}
 use Rattle.frame_rows.proofs.fill_roots.Tie as tie
 
 abbrev Inv-loop : tie.InvT-loop
-Inv-loop frames ds from size first₀ second₀ third₀ last₀ k₀ first second third last k = (k ≤ size) × Rooted frames ds from k first second third last
+Inv-loop frames ds from size roots₀ k₀ roots k = (k ≤ size) × Rooted frames ds from k roots
 
 abbrev μ-loop : tie.MeasureT-loop
-μ-loop frames ds from size first₀ second₀ third₀ last₀ k₀ first second third last k = size - k
+μ-loop frames ds from size roots₀ k₀ roots k = size - k
 
 loop-holds : tie.Need-loop-holds Inv-loop μ-loop
-loop-holds c = (search needs, rooted-none _ _ _ _ _ _ _ (search needs) (search needs) (search needs) (search needs))
+loop-holds c = (search needs, beside-none _ (search needs))
 
 from-list-requires : tie.Need-from-list-requires Inv-loop μ-loop
 from-list-requires c κs = rw (c .whole-at .ensures) (record-length 13 _ _ (omega arith))
@@ -32,18 +30,16 @@ of-requires c κs =
 
 loop-again : tie.Need-loop-again Inv-loop μ-loop
 loop-again c =
-    let second = c .before .before in
-    let first = second .before .before in
-    let made = first .before .before .before .before .before in
+    let made = c .before .before in
     let read = made .before in
     let f = read .before in
     let t = f .before .before in
     let l = t .before .loop in
     let s = t .before .before .before .before in
     let a = s .args in
-    let is : made .of .result ≡ rootOf (decompositionAt (a .ds .now) (a .from + l .k + 1)) (frameAt (a .frames .now) (a .from + l .k) .count)
+    let is : made .of .result ≡ rootAt (a .frames .now) (a .ds .now) (a .from + l .k)
     = rw (made .of .ensures, read .decomposition-at .ensures, f .from-list .ensures, f .before .whole-at .ensures) in
-    (search needs, rooted-more _ _ _ (omega (arith, t .loop-test .taken, s .pre .0)) is (first .put-three .ensures) (second .put-three2 .ensures) (c .put-three3 .ensures) refl (l .inv .1))
+    (search needs, rooted-more _ _ _ (omega (arith, t .loop-test .taken, s .pre .0)) is (c .put-root .ensures) (l .inv .1))
 
 returns : tie.Need-returns Inv-loop μ-loop
 returns c =
@@ -66,10 +62,6 @@ fill-roots-spec =
     (λ c κs. omega arith)
     of-requires
     (λ c κs. search needs)
-    (λ c κs. search needs)
-    (λ c κs. search needs)
-    (λ c. search needs)
-    (λ c. search needs)
     (λ c. search needs)
     (λ c. search needs)
     loop-again

@@ -6,14 +6,15 @@ use borrow.Author.Needs.{needs}
 use lib.ListN.{length}
 use Rattle.sums.specs.Fill.{length-written}
 use Rattle.lists.specs.Part.{_!_}
+use Rattle.batches.specs.Beside.{besideOf}
 use Rattle.frame_rows.specs.Steps.{putColumns}
-use Rattle.frame_rows.specs.Batch.{rowsIn}
+use Rattle.frame_rows.specs.Batch.{BATCH}
 use Rattle.frame_rows.specs.Laws.{put-none, put-more}
 use Rattle.frame_rows.proofs.store_rows.Statement.{statement}
 use Rattle.frame_rows.proofs.store_rows.Tie as tie
 
 abbrev Inv-loop : tie.InvT-loop
-Inv-loop out₀ at stride size cells k₀ out k = (k ≤ size) × (length out ≡ length out₀) × (out ≡ putColumns out₀ at stride (λ k r. rowsIn cells k ! r) k)
+Inv-loop out₀ at stride size cells k₀ out k = (k ≤ size) × (length out ≡ length out₀) × (out ≡ putColumns out₀ at stride (λ k r. besideOf BATCH 4 cells k ! r) k)
 
 abbrev μ-loop : tie.MeasureT-loop
 μ-loop out₀ at stride size cells k₀ out k = size - k

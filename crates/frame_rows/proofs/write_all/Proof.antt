@@ -1,5 +1,4 @@
 -- `frame_rows::write_all` meets its contract: the frames, then the fixed set. Assumes nothing.
-use mathlib.Core.Path.{_≡_}
 use borrow.Author.Needs.{needs}
 use Rattle.frame_rows.specs.Loop.{rows-all}
 use Rattle.frame_rows.proofs.write_all.Statement.{statement}

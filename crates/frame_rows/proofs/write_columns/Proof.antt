@@ -15,11 +15,11 @@ use Rattle.frame_rows.proofs.write_columns.Statement.{statement}
 use Rattle.frame_rows.proofs.write_columns.Tie as tie
 
 abbrev Inv-loop : tie.InvT-loop
-Inv-loop frames actions from size first second third last n info width rows jacobian₀ cells₀ c₀ jacobian cells c =
-    (c ≤ width) × (length cells ≡ FOURS) × (length jacobian ≡ length jacobian₀) × (jacobian ≡ putBlocks jacobian₀ from width rows size (λ c k r. columnRows frames actions n info c (rootIn first second third last k) (from + k) ! r) c)
+Inv-loop frames actions from size roots p width rows jacobian₀ cells₀ c₀ jacobian cells c =
+    (c ≤ width) × (length cells ≡ FOURS) × (length jacobian ≡ length jacobian₀) × (jacobian ≡ putBlocks jacobian₀ from width rows size (λ c k r. columnRows frames actions p c (rootIn roots k) (from + k) ! r) c)
 
 abbrev μ-loop : tie.MeasureT-loop
-μ-loop frames actions from size first second third last n info width rows jacobian₀ cells₀ c₀ jacobian cells c = width - c
+μ-loop frames actions from size roots p width rows jacobian₀ cells₀ c₀ jacobian cells c = width - c
 
 fill-column-requires : tie.Need-fill-column-requires Inv-loop μ-loop
 fill-column-requires c κs =
@@ -64,7 +64,7 @@ loop-again c =
     let held = filled .fill-column .ensures in
     let at = (a .from * a .width + l .c) * a .rows + a .from * 4 in
     let step = a .width * a .rows + 4 in
-    let w = p .store-rows .ensures ∙ put-same (l .jacobian) at step _ (λ k r. columnRows (a .frames .now) (a .actions .now) (a .n) (a .info) (l .c) (rootIn (a .first .now) (a .second .now) (a .third .now) (a .last .now) k) (a .from + k) ! r) (a .size) (λ k h r b. ap (λ (v : List Float). v ! r) (held .rows k h)) in (
+    let w = p .store-rows .ensures ∙ put-same (l .jacobian) at step _ (λ k r. columnRows (a .frames .now) (a .actions .now) (a .p) (l .c) (rootIn (a .roots .now) k) (a .from + k) ! r) (a .size) (λ k h r b. ap (λ (v : List Float). v ! r) (held .each k h)) in (
       omega (arith, t .loop-test .taken),
       held .long,
       ap length w ∙ length-put (l .jacobian) at step _ (a .size) (λ k h. rw (l .inv .2) (column-fits _ _ _ _ _ _ _ (s .pre) (l .c) (t .loop-test .taken) k h)) ∙ l .inv .2,
@@ -86,11 +86,11 @@ write-columns-spec =
     μ-loop
     (λ c. (omega arith, refl, refl, blocks-none _ _ _ _ _ _))
     fill-column-requires
-    (λ c. omega (arith, placed (c .before .before .before)))
-    (λ c. omega (arith, placed (c .before .before .before)))
-    (λ c. omega (arith, placed (c .before .before .before)))
-    (λ c. omega (arith, placed (c .before .before .before)))
-    (λ c. omega (arith, placed (c .before .before .before)))
+    (λ c. omega (arith, placed (c .before .before)))
+    (λ c. omega (arith, placed (c .before .before)))
+    (λ c. omega (arith, placed (c .before .before)))
+    (λ c. omega (arith, placed (c .before .before)))
+    (λ c. omega (arith, placed (c .before .before)))
     (λ c. omega (arith, placed (c .before .before .before)))
     (λ c. omega (arith, placed (c .before .before .before)))
     store-rows-requires

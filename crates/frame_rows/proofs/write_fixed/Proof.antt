@@ -1,6 +1,6 @@
 -- `frame_rows::write_fixed` meets its contract: no set, or the set's four rows. Assumes nothing.
 use Prim.Native.Nat.{_+_}
-use mathlib.Core.Path.{_≡_, ap, _∙_}
+use mathlib.Core.Path.{_∙_}
 use mathlib.Core.Logic.{⊎-elim}
 use native.Mathlib.Omega.{arith}
 use borrow.Author.Needs.{needs}
@@ -12,7 +12,7 @@ returns : tie.Need-returns
 returns c =
     let t = c .before .before .before .before in
     let a = t .before .before .before .before .args in
-    c .before .before .put-four .ensures ∙ fixed-none (a .count) (a .fixed .now) (a .ds .now) (a .n) (a .offset) (a .info) (a .residual .now) _ (t .if1 .taken)
+    c .before .before .put-four .ensures ∙ fixed-none (a .count) (a .fixed .now) (a .ds .now) (a .p .normal) (a .p .offset) (a .p .info) (a .residual .now) _ (t .if1 .taken)
 
 from-list-requires : tie.Need-from-list-requires
 from-list-requires c κs = ⊎-elim (λ e. absurd (c .if1 .left e)) (λ e. e) (c .before .before .before .before .pre .fixed-whole)
@@ -32,14 +32,14 @@ returns-2 : tie.Need-returns-2
 returns-2 c =
     let p = c .before .before in
     let r = p .before in
-    let l = r .before in
+    let l = r .before .before in
     let o = l .before .before .before in
     let d = o .before in
     let f = d .before in
     let e = f .before in
     let a = e .before .before .before .before .args in
     p .put-four2 .ensures
-    ∙ fixed-some (a .count) (a .fixed .now) (a .ds .now) (a .n) (a .offset) (a .info) (a .residual .now) _ (f .from-list .result) _ (o .of .result) (l .along .result) _ (e .if1 .left) (f .from-list .ensures) (d .decomposition-at .ensures) (o .of .ensures) (l .along .ensures) (r .rows .ensures)
+    ∙ fixed-some (a .count) (a .fixed .now) (a .ds .now) (a .p .normal) (a .p .offset) (a .p .info) (a .residual .now) _ (f .from-list .result) _ (o .of .result) (l .along .result) _ (e .if1 .left) (f .from-list .ensures) (d .decomposition-at .ensures) (o .of .ensures) (l .along .ensures) (r .rows .ensures)
 
 pub write-fixed-spec : {M : Type 1} → statement M
 write-fixed-spec =
