@@ -24,12 +24,10 @@ pub fn measure_all() {
         measure_accumulate::<7>(&planes);
         measure_accumulate::<9>(&planes);
         measure_cost(&planes);
-        if frames < 256 {
-            measure_linearize::<3>(&planes);
-            measure_linearize::<6>(&planes);
-            measure_linearize::<7>(&planes);
-            measure_linearize::<9>(&planes);
-        }
+        measure_linearize::<3>(&planes);
+        measure_linearize::<6>(&planes);
+        measure_linearize::<7>(&planes);
+        measure_linearize::<9>(&planes);
     }
 }
 
@@ -213,7 +211,7 @@ fn measure_linearize<const WIDTH: usize>(planes: &[Plane]) {
     let frames = planes[0].frames.len();
     let rows = 4 * frames + 4;
     let none = || (vec![0.0; rows], vec![0.0; rows * frames * WIDTH]);
-    let [mut by_library, mut by_rust, mut by_slices] = [none(), none(), none()];
+    let [mut by_library, mut by_rust, mut by_slices, mut by_nine] = [(); 4].map(|()| none());
     let library = |(residual, jacobian): &mut (Vec<f64>, Vec<f64>)| {
         for plane in black_box(planes) {
             _ = slices::frames_linearize(
@@ -228,9 +226,12 @@ fn measure_linearize<const WIDTH: usize>(planes: &[Plane]) {
             );
         }
     };
-    let rust = |(residual, jacobian): &mut (Vec<f64>, Vec<f64>)| {
+    fn rust<const WIDTH: usize, const WORKED_OUT: usize>(
+        planes: &[Plane],
+        (residual, jacobian): &mut (Vec<f64>, Vec<f64>),
+    ) {
         for plane in black_box(planes) {
-            plain::linearize::<WIDTH>(
+            plain::linearize::<WIDTH, WORKED_OUT>(
                 &plane.frames,
                 Some(&plane.fixed),
                 SIGMA,
@@ -240,7 +241,7 @@ fn measure_linearize<const WIDTH: usize>(planes: &[Plane]) {
                 jacobian,
             );
         }
-    };
+    }
     let of_slices = |(residual, jacobian): &mut (Vec<f64>, Vec<f64>)| {
         for plane in black_box(planes) {
             _ = plain::linearize_slices::<WIDTH>(
@@ -255,9 +256,11 @@ fn measure_linearize<const WIDTH: usize>(planes: &[Plane]) {
         }
     };
     library(&mut by_library);
-    rust(&mut by_rust);
+    rust::<WIDTH, WIDTH>(planes, &mut by_rust);
+    rust::<WIDTH, 9>(planes, &mut by_nine);
     of_slices(&mut by_slices);
     assert_eq!(by_library, by_rust);
+    assert_eq!(by_library, by_nine);
     assert_eq!(by_library, by_slices);
     let case = format!("{}, dof {WIDTH}", of(planes));
     measure(
@@ -265,7 +268,7 @@ fn measure_linearize<const WIDTH: usize>(planes: &[Plane]) {
         &case,
         planes.len(),
         || library(&mut by_library),
-        || rust(&mut by_rust),
+        || rust::<WIDTH, WIDTH>(planes, &mut by_rust),
     );
     measure(
         "frames_linearize",
@@ -274,6 +277,15 @@ fn measure_linearize<const WIDTH: usize>(planes: &[Plane]) {
         || library(&mut by_library),
         || of_slices(&mut by_slices),
     );
+    if WIDTH < 9 {
+        measure(
+            "frames_linearize",
+            &format!("{case}, Rust of nine columns"),
+            planes.len(),
+            || library(&mut by_library),
+            || rust::<WIDTH, 9>(planes, &mut by_nine),
+        );
+    }
 }
 
 /// The same in plain Rust: the compiler inlines all below the outermost functions, which are called as the library's are.
@@ -535,8 +547,9 @@ mod plain {
         })
     }
 
+    /// With blocks of so many worked out columns, of which the first are stored.
     #[inline(never)]
-    pub fn linearize<const WIDTH: usize>(
+    pub fn linearize<const WIDTH: usize, const WORKED_OUT: usize>(
         frames: &[Frame],
         fixed: Option<&Frame>,
         sigma: f64,
@@ -545,7 +558,7 @@ mod plain {
         residual: &mut [f64],
         jacobian: &mut [f64],
     ) {
-        linearized::<WIDTH>(
+        linearized::<WIDTH, WORKED_OUT>(
             frames,
             fixed,
             sigma,
@@ -593,7 +606,7 @@ mod plain {
         if !rest.is_empty() || actions.len() != frames.len() {
             return 8;
         }
-        linearized::<WIDTH>(
+        linearized::<WIDTH, WIDTH>(
             frames,
             fixed.first(),
             sigma,
@@ -608,7 +621,7 @@ mod plain {
 
     #[allow(clippy::too_many_arguments)]
     #[inline(always)]
-    fn linearized<const WIDTH: usize>(
+    fn linearized<const WIDTH: usize, const WORKED_OUT: usize>(
         frames: &[Frame],
         fixed: Option<&Frame>,
         sigma: f64,
@@ -634,14 +647,18 @@ mod plain {
                 residual[4 * f + k] = dot(root_rows[k], a_n) * information;
             }
             residual[4 * f + 3] = root_n * along * information;
-            let (d, m) = derivatives::<WIDTH>(a, n, three(frame, MEAN));
-            for c in 0..WIDTH {
-                let cells = &mut jacobian[(f * WIDTH + c) * rows + 4 * f..][..4];
+            let (d, m) = derivatives::<WORKED_OUT>(a, n, three(frame, MEAN));
+            let mut block: [[f64; 4]; WORKED_OUT] = std::array::from_fn(|c| {
                 let column = [d[0][c], d[1][c], d[2][c]];
-                for k in 0..3 {
-                    cells[k] = dot(root_rows[k], column) * information;
-                }
-                cells[3] = root_n * m[c] * information;
+                let [x, y, z] = root_rows.map(|row| dot(row, column) * information);
+                [x, y, z, root_n * m[c] * information]
+            });
+            if WORKED_OUT > WIDTH {
+                // The whole block is made, and then its first columns are stored.
+                black_box(&mut block);
+            }
+            for c in 0..WIDTH {
+                jacobian[(f * WIDTH + c) * rows + 4 * f..][..4].copy_from_slice(&block[c]);
             }
         }
         let last = 4 * frames.len();

@@ -281,7 +281,7 @@ fn write_columns(
     }
 }
 
-// The residuals of all frames, and their blocks into a Jacobian that is +0 everywhere. Small arrays are cleared faster than a large one.
+// The residuals of all frames, and their blocks into a Jacobian that is +0 everywhere.
 fn write_frames(
     frames: &[f64],
     actions: &[f64],
