@@ -58,7 +58,7 @@ module _ {batch : ℕ} (e d j k : ℕ) (l : j < batch) (m : k < batch) (q : plac
   same-thing = sym (thing-at batch e j l) ∙ ap (λ i. i % batch) one-place ∙ thing-at batch d k m
 
 module _ (batch : ℕ) (cells : List Float) (k : ℕ) (v : List Float) (inside : k < batch) where
-  length-beside : (n : ℕ) → length (putBeside batch n cells k v) ≡ length cells
+  pub length-beside : (n : ℕ) → length (putBeside batch n cells k v) ≡ length cells
   length-beside zero = refl
   length-beside (suc n) = length-set (putBeside batch n cells k v) (place batch n k) (v ! n) ∙ length-beside n
 
@@ -78,6 +78,13 @@ module _ (batch : ℕ) (cells : List Float) (k : ℕ) (v : List Float) (inside :
   put-other (suc n) j l other e =
       getD-set-other (putBeside batch n cells k v) (place batch n k) (place batch e j) (v ! n) nan (λ q. other (same-thing e n j k l inside q)) ∙ put-other n j l other e
 
+  -- what was put is read back, and the other things' numbers stay
+  pub beside-here : (n : ℕ) → n * batch ≤ length cells → length v ≡ n → besideOf batch n (putBeside batch n cells k v) k ≡ v
+  beside-here n long whole = tab-same n _ _ (put-here n long) ∙ tab-getD n v whole
+
+  pub beside-other : (n j : ℕ) → j < batch → j ≢ k → besideOf batch n (putBeside batch n cells k v) j ≡ besideOf batch n cells j
+  beside-other n j l other = tab-same n _ _ (λ e h. put-other n j l other e)
+
 -- an array that is filled thing by thing: before the first, and after one more
 pub beside-none : {batch n : ℕ} {v : ℕ → List Float} (cells : List Float) → length cells ≡ n * batch → Beside batch n v 0 cells
 beside-none cells long = record { long = long; each = λ k l. absurd (not-suc-le-zero l) }
@@ -85,7 +92,6 @@ beside-none cells long = record { long = long; each = λ k l. absurd (not-suc-le
 pub beside-more : {batch n : ℕ} (v : ℕ → List Float) {k : ℕ} {cells cells′ new : List Float} → k < batch → new ≡ v k → length (v k) ≡ n → cells′ ≡ putBeside batch n cells k new → Beside batch n v k cells → Beside batch n v (k + 1) cells′
 beside-more {batch} {n} v {k} {cells} {cells′} {new} l is whole put before = rw (put, is) (record {
   long = length-beside batch cells k (v k) l n ∙ before .long;
-  each = up-to {P = λ j. besideOf batch n (putBeside batch n cells k (v k)) j ≡ v j} k
-      (tab-same n _ _ (put-here batch cells k (v k) l n (omega (arith, before .long))) ∙ tab-getD n (v k) whole)
-      (λ j b. tab-same n _ _ (λ e h. put-other batch cells k (v k) l n j (omega arith) (λ z. omega arith) e) ∙ before .each j b);
+  each = up-to {P = λ j. besideOf batch n (putBeside batch n cells k (v k)) j ≡ v j} k (beside-here batch cells k (v k) l n (omega (arith, before .long)) whole)
+      (λ j b. beside-other batch cells k (v k) l n j (omega arith) (λ z. omega arith) ∙ before .each j b);
 })
