@@ -26,6 +26,8 @@ use Rattle.frame_segment.specs.Frame.{blockEntry, pulledEntry}
 use Rattle.frame_segment.specs.Steps.{Added, Held}
 use Rattle.frame_blocks.specs.Frame.{vectorEntry}
 use Rattle.frame_blocks.specs.Pulls.{BATCH, pullAt, pullIn, Pulled}
+use Rattle.frame_blocks.specs.Parts.{PART, partAt}
+use Rattle.batches.specs.Beside.{Beside}
 use Rattle.frame_cost.specs.Cost.{frameCost, fixedCost, costAt, framesCost}
 use Rattle.frame_cost.specs.declared.Pull.{Pull}
 
@@ -61,6 +63,11 @@ pub record Summed (order dof : ℕ) (frames actions : List Float) (map : List �
 pub record BatchAdded (order dof : ℕ) (frames actions : List Float) (map : List ℕ) (n : List Float) (weight : Float) (cells : List Float) (from size to : ℕ) (s r : Float) (h h′ g g′ : List Float) : Type 0 where
   pub more : (offset : Float) (h₀ g₀ : List Float) → Pulled frames actions n offset weight from size cells
       → Summed order dof frames actions map n offset weight from s h₀ h g₀ g → Summed order dof frames actions map n offset weight to r h₀ h′ g₀ g′
+
+-- the same of a batch of parts, for any frames that they are of
+pub record PartsAdded (order : ℕ) (map : List ℕ) (cells : List Float) (from size to : ℕ) (s r : Float) (h h′ g g′ : List Float) : Type 0 where
+  pub more : (frames actions n : List Float) (offset weight : Float) (h₀ g₀ : List Float) → Beside BATCH PART (λ k. partAt frames actions n offset weight (from + k)) size cells
+      → Summed order 3 frames actions map n offset weight from s h₀ h g₀ g → Summed order 3 frames actions map n offset weight to r h₀ h′ g₀ g′
 
 -- all frames with the fixed set
 pub record AllAdded (order dof : ℕ) (frames fixed actions : List Float) (map : List ℕ) (n : List Float) (offset weight r : Float) (h h′ g g′ : List Float) : Type 0 where

@@ -1,3 +1,4 @@
 pub mod Frame
 pub mod Pulls
+pub mod Parts
 pub mod Frames

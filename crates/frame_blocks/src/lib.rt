@@ -1,4 +1,6 @@
 // All frames of a call under a plane: what each costs, and what the mapped ones add.
+pub mod threes;
+
 use derivative::ACTION;
 use frame_cost::Pull;
 use normal_blocks::Place;
@@ -11,11 +13,11 @@ ghost use Prim.Native.Nat.{_+_, _*_, _≤_, _<_};
 ghost use lib.ListN.{length};
 ghost use Rattle.derivative.specs.Action.{actionSize};
 ghost use Rattle.point_moments.specs.Scatter.{CENTRED};
-ghost use Rattle.normal_blocks.specs.Map.{exceeds};
+ghost use Rattle.normal_blocks.specs.Map.{lookup, exceeds, someExceeds};
 ghost use Rattle.plane_fit.specs.Fit.{frameCount, frameAt, actionAt};
 ghost use Rattle.frame_segment.specs.Steps.{Held};
 ghost use Rattle.frame_blocks.specs.Pulls.{BATCH, PULLS, pullIn, withPull, Pulled};
-ghost use Rattle.frame_blocks.specs.Frames.{Ready, FrameAdded, Summed, BatchAdded, AllAdded};
+ghost use Rattle.frame_blocks.specs.Frames.{Ready, FrameAdded, Summed, BatchAdded, PartsAdded, AllAdded};
 
 // One frame: its block and vector are added if it has a place.
 fn add_frame(
@@ -56,8 +58,8 @@ fn add_frame(
     }
 }
 
-// How many frames' pulls are worked out before their blocks are added.
-const BATCH: usize = 4;
+// How many frames' pulls or parts are worked out before they are added.
+pub const BATCH: usize = 4;
 
 // Puts a pull into the pulls of a batch as that of its k-th frame.
 fn put_pull(pulls: &mut [f64; 20], k: usize, p: Pull)
@@ -190,6 +192,72 @@ fn add_frames(
     sum
 }
 
+// The parts of a batch are added where the map says, and their costs to a sum.
+fn add_parts(
+    h: &mut [f64],
+    g: &mut [f64],
+    map: &[u32],
+    from: usize,
+    size: usize,
+    cells: &[f64; 52],
+    sum: f64,
+) -> f64
+    requires { ⌜ (size ≤ BATCH) × (length (now h) ≡ length (now g) * length (now g)) × (someExceeds (length (now g)) (λ k. 3) (lookup (now map)) (from + size) ≡ false) ⌝ }
+    ensures { λ r. ⌜ PartsAdded (length (now (g .entry))) (now (map .entry)) (now (cells .entry)) from size (from + size) sum r (now (h .entry)) (now (h .exit)) (now (g .entry)) (now (g .exit)) ⌝ }
+{
+    let n = g.len();
+    let mut s = sum;
+    for k in 0..size {
+        match normal_blocks::lookup(map, from + k) {
+            Place::At(at) => {
+                threes::add_part(h, g, n, at, cells, k);
+            }
+            Place::Unmapped => {}
+        }
+        s = s + threes::cost_at(cells, k);
+    }
+    s
+}
+
+// The same of frames of three columns, worked out side by side.
+fn add_threes(
+    h: &mut [f64],
+    g: &mut [f64],
+    frames: &[f64],
+    actions: &[f64],
+    map: &[u32],
+    normal: [f64; 3],
+    offset: f64,
+    weight: f64,
+    count: usize,
+) -> f64
+    requires { ⌜ (count ≡ frameCount (now frames)) × Ready (length (now h)) (length (now g)) 3 (now frames) (now actions) (now map) ⌝ }
+    ensures { λ r. ⌜ Summed (length (now (g .entry))) 3 (now (frames .entry)) (now (actions .entry)) (now (map .entry)) normal offset weight count r (now (h .entry)) (now (h .exit)) (now (g .entry)) (now (g .exit)) ⌝ }
+{
+    let mut sum = 0.0;
+    let mut c = [0.0; 52];
+    let mut from = 0;
+    while from < count {
+        let size = lists::batch_size(count, from, BATCH);
+        threes::fill_parts(frames, actions, from, size, normal, offset, weight, &mut c);
+        sum = add_parts(h, g, map, from, size, &c, sum);
+        from = from + size;
+    }
+    sum
+}
+
+// Whether each of the frames has a word in the map, and none says that its frame is unmapped. Either way to add them is right: this one tells which is faster.
+fn all_mapped(map: &[u32], count: usize) -> bool {
+    if map.len() < count {
+        return false;
+    }
+    let mut bits = 0;
+    for k in 0..count {
+        bits = bits | map[k];
+    }
+    bits < 0x4000_0000
+}
+
 // All frames of a call under a plane: each one's block and vector are added where the map says, and the cost, with the fixed set's, is the answer.
 // Without a map the costs are summed in a loop of their own, which is faster.
 pub fn add_all(
@@ -211,6 +279,10 @@ pub fn add_all(
     if map.len() == 0 {
         let alone = frame_cost::frames_cost(frames, actions, normal, offset, weight, count);
         return frame_cost::with_fixed(alone, fixed, normal, offset, weight);
+    }
+    if dof == 3 && all_mapped(map, count) {
+        let threes = add_threes(h, g, frames, actions, map, normal, offset, weight, count);
+        return frame_cost::with_fixed(threes, fixed, normal, offset, weight);
     }
     let sum = add_frames(
         h,
