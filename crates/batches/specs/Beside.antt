@@ -43,7 +43,7 @@ module _ (batch e k : ℕ) (inside : k < batch) where
   pub thing-at : (e * batch + k) % batch ≡ k
   thing-at = mul-add-mod-self-right e batch k ∙ mod-eq-of-lt inside
 
-place-is : (batch e k : ℕ) → place batch e k ≡ e * batch + k
+pub place-is : (batch e k : ℕ) → place batch e k ≡ e * batch + k
 place-is batch zero k = rw (zero-mul, zero-add)
 place-is batch (suc e) k = refl
 

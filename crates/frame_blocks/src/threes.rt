@@ -10,9 +10,8 @@ use point_moments::scatter::CENTRED;
 use point_moments::scatter::Centred;
 ghost use mathlib.Core.Path.{_≡_};
 ghost use Prim.Native.Nat.{_+_, _*_, _≤_, _<_};
-ghost use lib.ListN.{length, getD};
-ghost use lib.Ieee.{nan};
-ghost use Rattle.batches.specs.Beside.{putBeside, Beside};
+ghost use lib.ListN.{length};
+ghost use Rattle.batches.specs.Beside.{besideOf, putBeside, Beside};
 ghost use Rattle.sums.specs.Sum.{tab};
 ghost use Rattle.lists.specs.Part.{_!_};
 ghost use Rattle.terms.specs.Terms.{addAll, segment};
@@ -148,7 +147,7 @@ fn add_three(out: &mut [f64], base: usize, v: [f64; 3])
 // Three numbers of the k-th frame of a batch, from number e on.
 fn three_at(cells: &[f64; 52], e: usize, k: usize) -> [f64; 3]
     requires { ⌜ (k < BATCH) × (e + 3 ≤ PART) ⌝ }
-    ensures { λ r. ⌜ r ≡ tab 3 (λ i. getD (now (cells .entry)) ((e + i) * BATCH + k) nan) ⌝ }
+    ensures { λ r. ⌜ r ≡ tab 3 (λ i. besideOf BATCH PART (now (cells .entry)) k ! (e + i)) ⌝ }
 {
     [
         cells[e * BATCH + k],

@@ -63,7 +63,7 @@ module _ (x n : List Float) (f : Centred) (width : ℕ) (o d0 d1 d2 : List Float
   module _ (m p0 p1 p2 : List Float) (hm : m ≡ padded 9 width (shifted (λ i. getD o i nan) (rows d0 d1 d2) (f .mean)))
       (q0 : p0 ≡ padded 9 width (combined (rows d0 d1 d2) (column 3 (f .scatter) 0))) (q1 : p1 ≡ padded 9 width (combined (rows d0 d1 d2) (column 3 (f .scatter) 1)))
       (q2 : p2 ≡ padded 9 width (combined (rows d0 d1 d2) (column 3 (f .scatter) 2))) where
-    entry-is : (weight : Float) (i j : ℕ) → i < width → j < width → rowsEntry d0 d1 d2 p0 p1 p2 m (f .count) weight i j ≡ blockEntry x f n weight i j
+    pub entry-is : (weight : Float) (i j : ℕ) → i < width → j < width → rowsEntry d0 d1 d2 p0 p1 p2 m (f .count) weight i j ≡ blockEntry x f n weight i j
     unfolding rowsEntry columnEntry blockEntry combined
     entry-is weight i j k l =
         let along = m-is m hm in
@@ -81,7 +81,7 @@ module _ (x n : List Float) (f : Centred) (width : ℕ) (o d0 d1 d2 : List Float
           first-of 9 width (dAn x n 2) d2 h2 j l,
         )
 
-    vector-is : (s : List Float) (t weight : Float) (i : ℕ) → i < width → rowsVector d0 d1 d2 m s t weight i ≡ pulledEntry x f n s t weight i
+    pub vector-is : (s : List Float) (t weight : Float) (i : ℕ) → i < width → rowsVector d0 d1 d2 m s t weight i ≡ pulledEntry x f n s t weight i
     unfolding rowsVector pulledEntry combined
     vector-is s t weight i k =
         cc (
