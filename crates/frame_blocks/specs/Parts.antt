@@ -12,7 +12,7 @@ use Rattle.sums.specs.Sum.{tab, column}
 use Rattle.sums.specs.Laws.{getD-tab, tab-same}
 use Rattle.sums.specs.Fill.{padded}
 use Rattle.lists.specs.Part.{_!_}
-use Rattle.batches.specs.Beside.{place, besideOf, Beside, place-is}
+use Rattle.batches.specs.Beside.{place, besideOf, place-is}
 use Rattle.terms.specs.Terms.{addAll, segment}
 use Rattle.terms.specs.Laws.{upto-none, segment-same, block-more, block-all, column-before}
 use Rattle.derivative.specs.Action.{originPlace}
@@ -47,7 +47,11 @@ partOf x f n offset weight = tab 9 (λ e. blockEntry x f n weight (e % 3) (e / 3
 abbrev pub partAt : List Float → List Float → List Float → Float → Float → ℕ → List Float
 partAt frames actions n offset weight k = partOf (actionAt actions k) (frameAt frames k) n offset weight
 
--- what the batch's k-th frame adds and costs, by its numbers
+-- three numbers of the part of the batch's k-th frame, from number e on
+abbrev pub threeIn : List Float → ℕ → ℕ → List Float
+threeIn cells k e = tab 3 (λ i. besideOf BATCH PART cells k ! (e + i))
+
+-- what that frame adds and costs, by its numbers
 abbrev pub blockIn : List Float → ℕ → ℕ → ℕ → Float
 blockIn cells k i j = besideOf BATCH PART cells k ! (3 * j + i)
 
@@ -60,31 +64,34 @@ costIn cells k = besideOf BATCH PART cells k ! 12
 -- ---- laws
 
 -- number e of a part, by its place among those of the batch
-pub number-is : (cells : List Float) (k e : ℕ) → e < PART → besideOf BATCH PART cells k ! e ≡ cells ! (e * BATCH + k)
+number-is : (cells : List Float) (k e : ℕ) → e < PART → besideOf BATCH PART cells k ! e ≡ cells ! (e * BATCH + k)
 number-is cells k e l = getD-tab PART (λ d. cells ! place BATCH d k) e l ∙ ap (λ (p : ℕ). cells ! p) (place-is BATCH e k)
 
--- three of them, from number e on, as code reads them
+-- three of them, as code reads them
 pub three-is : (cells : List Float) (k e : ℕ) → e + 3 ≤ PART
-    → (cells ! (e * BATCH + k)) ∷ (cells ! ((e + 1) * BATCH + k)) ∷ (cells ! ((e + 2) * BATCH + k)) ∷ [] ≡ tab 3 (λ i. besideOf BATCH PART cells k ! (e + i))
+    → (cells ! (e * BATCH + k)) ∷ (cells ! ((e + 1) * BATCH + k)) ∷ (cells ! ((e + 2) * BATCH + k)) ∷ [] ≡ threeIn cells k e
 three-is cells k e fit =
     rw (number-is cells k (e + 0) (omega arith), number-is cells k (e + 1) (omega arith), number-is cells k (e + 2) (omega arith), add-zero e)
 
--- a column of three rows ends within the matrix
-pub column-ends : (n at j : ℕ) → at + 3 ≤ n → j < at + 3 → j * n + at + 3 ≤ n * n
-column-ends n at j fit l = omega (arith, column-before n j n (omega arith))
+-- three columns from the row `at` on end within the matrix
+pub columns-end : (n at : ℕ) → at + 3 ≤ n → (at * n + at + 3 ≤ n * n) × ((at + 1) * n + at + 3 ≤ n * n) × ((at + 2) * n + at + 3 ≤ n * n)
+columns-end n at fit = (end at (omega arith), end (at + 1) (omega arith), end (at + 2) (omega arith))
+  where
+    end : (j : ℕ) → j < at + 3 → j * n + at + 3 ≤ n * n
+    end j l = omega (arith, column-before n j n (omega arith))
 
 -- three numbers of a part that were added: a column of the block, or the vector
 module _ (cells : List Float) (k : ℕ) where
-  three-added : (e base : ℕ) (v h : List Float) {h′ : List Float} → v ≡ tab 3 (λ i. besideOf BATCH PART cells k ! (e + i)) → h′ ≡ addAll h (segment base 3 (λ i. v ! i))
+  three-added : (e base : ℕ) (v h : List Float) {h′ : List Float} → v ≡ threeIn cells k e → h′ ≡ addAll h (segment base 3 (λ i. v ! i))
       → h′ ≡ addAll h (segment base 3 (λ i. besideOf BATCH PART cells k ! (e + i)))
   three-added e base v h is added = added ∙ ap (addAll h) (segment-same base 3 _ _ (λ i l. rw is (getD-tab 3 (λ j. besideOf BATCH PART cells k ! (e + j)) i l)))
 
   -- A PART ADDED: its block column after column, and its vector
   pub part-added : (n at : ℕ) {a b c d h h1 h2 h3 g g′ : List Float}
-      → a ≡ tab 3 (λ i. besideOf BATCH PART cells k ! (0 + i)) → h1 ≡ addAll h (segment (at * n + at) 3 (λ i. a ! i))
-      → b ≡ tab 3 (λ i. besideOf BATCH PART cells k ! (3 + i)) → h2 ≡ addAll h1 (segment ((at + 1) * n + at) 3 (λ i. b ! i))
-      → c ≡ tab 3 (λ i. besideOf BATCH PART cells k ! (6 + i)) → h3 ≡ addAll h2 (segment ((at + 2) * n + at) 3 (λ i. c ! i))
-      → d ≡ tab 3 (λ i. besideOf BATCH PART cells k ! (9 + i)) → g′ ≡ addAll g (segment at 3 (λ i. d ! i))
+      → a ≡ threeIn cells k 0 → h1 ≡ addAll h (segment (at * n + at) 3 (λ i. a ! i))
+      → b ≡ threeIn cells k 3 → h2 ≡ addAll h1 (segment ((at + 1) * n + at) 3 (λ i. b ! i))
+      → c ≡ threeIn cells k 6 → h3 ≡ addAll h2 (segment ((at + 2) * n + at) 3 (λ i. c ! i))
+      → d ≡ threeIn cells k 9 → g′ ≡ addAll g (segment at 3 (λ i. d ! i))
       → Added n at 3 (blockIn cells k) (vectorIn cells k) h h3 g g′
   part-added n at {a} {b} {c} {d} {h} {h1} {h2} {h3} {g} {g′} ia ea ib eb ic ec id ed =
       let e = blockIn cells k in
@@ -106,7 +113,7 @@ pub part-is : (x n : List Float) (f : Centred) (offset weight : Float) {o d0 d1 
     → w ≡ tab 3 (columnEntry p0 p1 p2 m (d0 ! 2) (d1 ! 2) (d2 ! 2) (m ! 2) (f .count) weight)
     → g ≡ tab 3 (rowsVector d0 d1 d2 m (pull .turn) (pull .shift) weight)
     → numbersOf (record { block = (u ! 0) ∷ (u ! 1) ∷ (u ! 2) ∷ (v ! 0) ∷ (v ! 1) ∷ (v ! 2) ∷ (w ! 0) ∷ (w ! 1) ∷ (w ! 2) ∷ []; vector = g; cost = pull .cost })
-        ≡ partOf x f n offset weight
+    ≡ partOf x f n offset weight
 unfolding partOf vectorEntry frameCost rowsEntry
 part-is x n f offset weight {o} {d0} {d1} {d2} {m} {p0} {p1} {p2} {u} {v} {w} {g} {pull} hp ho h0 h1 h2 hm q0 q1 q2 hu hv hw hg =
     let entry = entry-is x n f 3 o d0 d1 d2 ho h0 h1 h2 m p0 p1 p2 hm q0 q1 q2 weight in

@@ -11,7 +11,7 @@ use point_moments::scatter::Centred;
 ghost use mathlib.Core.Path.{_≡_};
 ghost use Prim.Native.Nat.{_+_, _*_, _≤_, _<_};
 ghost use lib.ListN.{length};
-ghost use Rattle.batches.specs.Beside.{besideOf, putBeside, Beside};
+ghost use Rattle.batches.specs.Beside.{putBeside, Beside};
 ghost use Rattle.sums.specs.Sum.{tab};
 ghost use Rattle.lists.specs.Part.{_!_};
 ghost use Rattle.terms.specs.Terms.{addAll, segment};
@@ -19,7 +19,7 @@ ghost use Rattle.derivative.specs.Action.{actionSize};
 ghost use Rattle.point_moments.specs.Scatter.{CENTRED};
 ghost use Rattle.frame_segment.specs.Steps.{columnEntry, rowsVector, Added};
 ghost use Rattle.frame_blocks.specs.Pulls.{BATCH};
-ghost use Rattle.frame_blocks.specs.Parts.{PART, PARTS, numbersOf, partOf, partAt, blockIn, vectorIn, costIn};
+ghost use Rattle.frame_blocks.specs.Parts.{PART, PARTS, numbersOf, partOf, partAt, threeIn, blockIn, vectorIn, costIn};
 
 // What a frame of three columns adds: its block by columns, its vector, and its cost.
 pub struct Part {
@@ -147,7 +147,7 @@ fn add_three(out: &mut [f64], base: usize, v: [f64; 3])
 // Three numbers of the k-th frame of a batch, from number e on.
 fn three_at(cells: &[f64; 52], e: usize, k: usize) -> [f64; 3]
     requires { ⌜ (k < BATCH) × (e + 3 ≤ PART) ⌝ }
-    ensures { λ r. ⌜ r ≡ tab 3 (λ i. besideOf BATCH PART (now (cells .entry)) k ! (e + i)) ⌝ }
+    ensures { λ r. ⌜ r ≡ threeIn (now (cells .entry)) k e ⌝ }
 {
     [
         cells[e * BATCH + k],

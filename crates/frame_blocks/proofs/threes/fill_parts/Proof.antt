@@ -1,6 +1,6 @@
 -- `frame_blocks::threes::fill_parts` meets its contract: after k turns the parts of the batch's first k frames are there. Assumes nothing.
 use Prim.Native.Nat.{_+_, _≤_, _-_}
-use mathlib.Core.Path.{_≡_, refl, _∙_}
+use mathlib.Core.Path.{_≡_, refl}
 use native.Mathlib.Omega.{arith}
 use borrow.Author.Needs.{needs}
 use Rattle.batches.specs.Beside.{Beside, beside-none, beside-more}
@@ -38,7 +38,7 @@ loop-again c =
     let start = read .before .before .before .before .before .before .before in
     let a = start .args in
     let is : numbersOf (made .part-of .result) ≡ partAt (a .frames .now) (a .actions .now) (a .normal) (a .offset) (a .weight) (a .from + l .k)
-    = made .part-of .ensures ∙ rw (read .whole-at2 .ensures, read .before .from-list .ensures, read .before .before .whole-at .ensures) in
+    = rw (read .whole-at2 .ensures, read .before .from-list .ensures, read .before .before .whole-at .ensures) at (made .part-of .ensures) in
     (search needs, beside-more _ (omega (arith, start .pre .0, l .inv .0)) is refl (c .put-part .ensures) (l .inv .1))
 
 returns : tie.Need-returns Inv-loop μ-loop
