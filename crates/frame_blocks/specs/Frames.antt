@@ -1,18 +1,22 @@
 -- All frames of a call under a plane: what each of them adds where, and what they cost with the fixed set. Assumes nothing.
-use Prim.Native.Nat.{ℕ, zero, suc, _+_, _*_, _≤_, _<_}
+use Prim.Native.Nat.{ℕ, zero, suc, _+_, _*_, _/_, _%_, _≤_, _<_}
 use native.Mathlib.Numerals.{add-one}
 use native.Mathlib.Nat.{add-zero, add-assoc}
 use mathlib.Core.Path.{_≡_, refl, sym, ap, ap₂, _∙_}
 use native.Mathlib.Omega.{arith}
 use mathlib.Core.Bool.{false}
-use mathlib.Core.List.{List}
-use lib.ListN.{length}
-use lib.Ieee.{Float}
-use Rattle.sums.specs.Sum.{_⊕_, zeroF, sumFromZero}
+use mathlib.Core.List.{List, [], _∷_, _++_}
+use lib.ListN.{length, List·getD-append}
+use lib.Seq.{getD-append-add}
+use lib.Ieee.{Float, nan}
+use Rattle.sums.specs.Sum.{_⊕_, zeroF, sumFromZero, tab}
+use Rattle.sums.specs.Laws.{getD-tab}
+use Rattle.lists.specs.Part.{_!_}
 use Rattle.terms.specs.Terms.{addAll, upto}
 use Rattle.terms.specs.Laws.{upto-none}
 use Rattle.normal_blocks.specs.declared.Place.{Place}
-use Rattle.normal_blocks.specs.Map.{lookup, exceeds, someExceeds}
+use Rattle.normal_blocks.specs.Map.{lookup, exceeds, exceedsAt, someExceeds}
+use Rattle.normal_blocks.specs.Somewhere.{nowhere-none, nowhere-more}
 use Rattle.normal_blocks.specs.Laws.{lookup-past, fits}
 use Rattle.normal_blocks.specs.TargetLaws.{hessian-mapped, gradient-mapped, hessian-unmapped, gradient-unmapped}
 use Rattle.normal_blocks.specs.declared.Place.the-variants.{At, Unmapped}
@@ -26,8 +30,8 @@ use Rattle.frame_segment.specs.Frame.{blockEntry, pulledEntry}
 use Rattle.frame_segment.specs.Steps.{Added, Held}
 use Rattle.frame_blocks.specs.Frame.{vectorEntry}
 use Rattle.frame_blocks.specs.Pulls.{BATCH, pullAt, pullIn, Pulled}
-use Rattle.frame_blocks.specs.Parts.{PART, partAt}
-use Rattle.batches.specs.Beside.{Beside}
+use Rattle.frame_blocks.specs.Parts.{PART, partOf, partAt, blockIn, vectorIn, costIn}
+use Rattle.batches.specs.Beside.{besideOf, Beside}
 use Rattle.frame_cost.specs.Cost.{frameCost, fixedCost, costAt, framesCost}
 use Rattle.frame_cost.specs.declared.Pull.{Pull}
 
@@ -52,6 +56,11 @@ pub record Ready (cells order dof : ℕ) (frames actions : List Float) (map : Li
 pub record FrameAdded (x : List Float) (f : Centred) (n : List Float) (s : Pull) (weight : Float) (order dof : ℕ) (p : Place) (h h′ g g′ : List Float) : Type 0 where
   pub hessian : h′ ≡ addAll h (hessianAt order dof p (blockEntry x f n weight))
   pub gradient : g′ ≡ addAll g (gradientAt dof p (pulledEntry x f n (s .turn) (s .shift) weight))
+
+-- the k-th part of a batch, at the place p
+pub record PartAdded (order : ℕ) (p : Place) (cells : List Float) (k : ℕ) (h h′ g g′ : List Float) : Type 0 where
+  pub hessian : h′ ≡ addAll h (hessianAt order 3 p (blockIn cells k))
+  pub gradient : g′ ≡ addAll g (gradientAt 3 p (vectorIn cells k))
 
 -- the loop over the frames, after k of them
 pub record Summed (order dof : ℕ) (frames actions : List Float) (map : List ℕ) (n : List Float) (offset weight : Float) (k : ℕ) (s : Float) (h h′ g g′ : List Float) : Type 0 where
@@ -97,6 +106,13 @@ module _ (order dof : ℕ) (frames actions : List Float) (map : List ℕ) where
   module _ (cells : ℕ) (ready : Ready cells order dof frames actions map) where
     pub ready-fits : (rows k : ℕ) (p : Place) → rows ≡ order → p ≡ lookup map k → k < frameCount frames → exceeds rows dof p ≡ false
     ready-fits rows k p e at l = rw (e, at) (fits order (λ k. dof) (lookup map) (frameCount frames) (ready .fits) k l)
+
+    -- none of the first frames exceeds, however many they are
+    pub ready-upto : (rows to : ℕ) → rows ≡ order → to ≤ frameCount frames → someExceeds rows (λ k. dof) (lookup map) to ≡ false
+    unfolding someExceeds exceedsAt
+    ready-upto rows zero e l = nowhere-none (exceedsAt rows (λ k. dof) (lookup map))
+    ready-upto rows (suc to) e l =
+        rw (add-one to) at (nowhere-more (exceedsAt rows (λ k. dof) (lookup map)) to (ready-upto rows to e (omega arith)) (ready-fits rows to (lookup map to) e refl l))
 
     pub ready-held : (k : ℕ) → k < frameCount frames → Held frames actions k
     ready-held k l = record { frame = omega arith; action = omega (arith, ready .acted) }
@@ -165,3 +181,72 @@ module _ (order dof : ℕ) (frames actions : List Float) (map : List ℕ) where
         → BatchAdded rows dof frames actions map n weight cells from size (from + size) s r h h′ g g′ → Summed order dof frames actions map n offset weight from s h₀ h g₀ g
         → Summed order dof frames actions map n offset weight (from + size) r h₀ h′ g₀ g′
     batch-added offset rows s r h₀ h h′ g₀ g g′ e pulled added before = (rw e at added) .more offset h₀ g₀ pulled before
+
+-- the numbers of a part are its frame's block, vector and cost
+module _ (x : List Float) (f : Centred) (n : List Float) (offset weight : Float) where
+  part-block : (i j : ℕ) → i < 3 → j < 3 → partOf x f n offset weight ! (3 * j + i) ≡ blockEntry x f n weight i j
+  unfolding partOf
+  part-block i j li lj =
+      let entries : ℕ → Float = λ e. blockEntry x f n weight (e % 3) (e / 3) in
+      let rest = tab 3 (vectorEntry x f n offset weight) ++ (frameCost x f n offset weight ∷ []) in
+      let row : (3 * j + i) % 3 ≡ i = omega arith in
+      let column : (3 * j + i) / 3 ≡ j = omega arith in
+      List·getD-append (tab 9 entries) rest nan (3 * j + i) (omega arith) ∙ getD-tab 9 entries (3 * j + i) (omega arith) ∙ ap₂ (blockEntry x f n weight) row column
+
+  part-vector : (i : ℕ) → i < 3 → partOf x f n offset weight ! (9 + i) ≡ vectorEntry x f n offset weight i
+  unfolding partOf
+  part-vector i li =
+      let entries = vectorEntry x f n offset weight in
+      let last = frameCost x f n offset weight ∷ [] in
+      getD-append-add (tab 9 (λ e. blockEntry x f n weight (e % 3) (e / 3))) (tab 3 entries ++ last) i nan ∙ List·getD-append (tab 3 entries) last nan i li ∙ getD-tab 3 entries i li
+
+  part-cost : partOf x f n offset weight ! 12 ≡ frameCost x f n offset weight
+  unfolding partOf
+  part-cost = refl
+
+module _ (order : ℕ) (p : Place) (cells : List Float) (k : ℕ) where
+  -- a part at an offset, and one that goes nowhere
+  pub part-mapped : (at : ℕ) (h h′ g g′ : List Float) → p ≡ At at → Added order at 3 (blockIn cells k) (vectorIn cells k) h h′ g g′ → PartAdded order p cells k h h′ g g′
+  part-mapped at h h′ g g′ mapped a = record {
+    hessian = hessian-mapped 3 p at mapped order (blockIn cells k) h h′ (a .hessian);
+    gradient = gradient-mapped 3 p at mapped (vectorIn cells k) g g′ (a .gradient);
+  }
+
+  pub part-unmapped : (h g : List Float) → p ≡ Unmapped → PartAdded order p cells k h h g g
+  part-unmapped h g nowhere = record {
+    hessian = hessian-unmapped 3 p nowhere order (blockIn cells k) h;
+    gradient = gradient-unmapped 3 p nowhere (vectorIn cells k) g;
+  }
+
+  -- a part that is frame j's adds that frame
+  part-summed : (map : List ℕ) (frames actions n : List Float) (offset weight : Float) (j : ℕ) (s v : Float) (h₀ h h′ g₀ g g′ : List Float) → p ≡ lookup map j → v ≡ costIn cells k
+      → besideOf BATCH PART cells k ≡ partAt frames actions n offset weight j → PartAdded order p cells k h h′ g g′
+      → Summed order 3 frames actions map n offset weight j s h₀ h g₀ g → Summed order 3 frames actions map n offset weight (j + 1) (s ⊕ v) h₀ h′ g₀ g′
+  unfolding costAt
+  part-summed map frames actions n offset weight j s v h₀ h h′ g₀ g g′ ep ev is a before =
+      let all = framesUnder 3 frames actions map n offset weight in
+      let x = actionAt actions j in
+      let f = frameAt frames j in
+      record {
+        cost = rw (add-one j) (ap₂ _⊕_ (before .cost) (ev ∙ ap (λ l. l ! 12) is ∙ part-cost x f n offset weight));
+        hessian = hessian-more all j p ep order h₀ h h′ (blockIn cells k) (λ i j li lj. ap (λ l. l ! (3 * j + i)) is ∙ part-block x f n offset weight i j li lj) (before .hessian) (a .hessian);
+        gradient = gradient-more all j p ep g₀ g g′ (vectorIn cells k) (λ i li. ap (λ l. l ! (9 + i)) is ∙ part-vector x f n offset weight i li) (before .gradient) (a .gradient);
+      }
+
+-- a batch of parts, part after part
+module _ (order : ℕ) (map : List ℕ) (cells : List Float) (from size : ℕ) where
+  pub parts-none : (s : Float) (h g : List Float) → PartsAdded order map cells from size (from + 0) s s h h g g
+  parts-none s h g = record { more = λ frames actions n offset weight h₀ g₀ beside before. rw add-zero before }
+
+  pub parts-more : (k : ℕ) (p : Place) (s r v : Float) (h h′ h″ g g′ g″ : List Float) → k < size → p ≡ lookup map (from + k) → v ≡ costIn cells k
+      → PartAdded order p cells k h′ h″ g′ g″ → PartsAdded order map cells from size (from + k) s r h h′ g g′
+      → PartsAdded order map cells from size (from + (k + 1)) s (r ⊕ v) h h″ g g″
+  parts-more k p s r v h h′ h″ g g′ g″ l ep ev a before = record {
+    more = λ frames actions n offset weight h₀ g₀ beside start.
+        rw add-assoc at (part-summed order p cells k map frames actions n offset weight (from + k) r v h₀ h′ h″ g₀ g′ g″ ep ev (beside .each k l) a (before .more frames actions n offset weight h₀ g₀ beside start));
+  }
+
+  pub parts-added : (frames actions n : List Float) (offset weight : Float) (rows : ℕ) (s r : Float) (h₀ h h′ g₀ g g′ : List Float) → rows ≡ order
+      → Beside BATCH PART (λ k. partAt frames actions n offset weight (from + k)) size cells → PartsAdded rows map cells from size (from + size) s r h h′ g g′
+      → Summed order 3 frames actions map n offset weight from s h₀ h g₀ g → Summed order 3 frames actions map n offset weight (from + size) r h₀ h′ g₀ g′
+  parts-added frames actions n offset weight rows s r h₀ h h′ g₀ g g′ e beside added before = (rw e at added) .more frames actions n offset weight h₀ g₀ beside before

@@ -9,7 +9,7 @@ use point_moments::scatter::Centred;
 ghost use mathlib.Core.Path.{_≡_};
 ghost use mathlib.Core.Bool.{false};
 ghost use mathlib.Core.Logic.{_⊎_};
-ghost use Prim.Native.Nat.{_+_, _*_, _≤_, _<_};
+ghost use Prim.Native.Nat.{_+_, _*_, _^_, _≤_, _<_};
 ghost use lib.ListN.{length};
 ghost use Rattle.derivative.specs.Action.{actionSize};
 ghost use Rattle.point_moments.specs.Scatter.{CENTRED};
@@ -202,7 +202,7 @@ fn add_parts(
     cells: &[f64; 52],
     sum: f64,
 ) -> f64
-    requires { ⌜ (size ≤ BATCH) × (length (now h) ≡ length (now g) * length (now g)) × (someExceeds (length (now g)) (λ k. 3) (lookup (now map)) (from + size) ≡ false) ⌝ }
+    requires { ⌜ (size ≤ BATCH) × (from + size < 2 ^ 64) × (length (now h) ≡ length (now g) * length (now g)) × (someExceeds (length (now g)) (λ k. 3) (lookup (now map)) (from + size) ≡ false) ⌝ }
     ensures { λ r. ⌜ PartsAdded (length (now (g .entry))) (now (map .entry)) (now (cells .entry)) from size (from + size) sum r (now (h .entry)) (now (h .exit)) (now (g .entry)) (now (g .exit)) ⌝ }
 {
     let n = g.len();
