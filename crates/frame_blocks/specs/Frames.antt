@@ -28,9 +28,9 @@ use Rattle.point_moments.specs.declared.scatter.Centred.{Centred}
 use Rattle.plane_fit.specs.Fit.{frameCount, frameAt, actionAt, andFixed}
 use Rattle.frame_segment.specs.Frame.{blockEntry, pulledEntry}
 use Rattle.frame_segment.specs.Steps.{Added, Held}
-use Rattle.frame_blocks.specs.Frame.{vectorEntry}
+use Rattle.frame_parts.specs.Frame.{vectorEntry}
 use Rattle.frame_blocks.specs.Pulls.{BATCH, pullAt, pullIn, Pulled}
-use Rattle.frame_blocks.specs.Parts.{PART, partOf, partAt, blockIn, vectorIn, costIn}
+use Rattle.frame_parts.specs.Parts.{PART, partOf, partAt, blockIn, vectorIn, costIn}
 use Rattle.batches.specs.Beside.{besideOf, Beside}
 use Rattle.frame_cost.specs.Cost.{frameCost, fixedCost, costAt, framesCost}
 use Rattle.frame_cost.specs.declared.Pull.{Pull}

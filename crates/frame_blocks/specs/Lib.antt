@@ -1,4 +1,2 @@
-pub mod Frame
 pub mod Pulls
-pub mod Parts
 pub mod Frames

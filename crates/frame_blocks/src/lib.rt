@@ -1,6 +1,4 @@
 // All frames of a call under a plane: what each costs, and what the mapped ones add.
-pub mod threes;
-
 use derivative::ACTION;
 use frame_cost::Pull;
 use normal_blocks::Place;
@@ -58,8 +56,8 @@ fn add_frame(
     }
 }
 
-// How many frames' pulls or parts are worked out before they are added.
-pub const BATCH: usize = 4;
+// How many frames' pulls are worked out before their blocks are added.
+const BATCH: usize = 4;
 
 // Puts a pull into the pulls of a batch as that of its k-th frame.
 fn put_pull(pulls: &mut [f64; 20], k: usize, p: Pull)
@@ -210,11 +208,11 @@ fn add_parts(
     for k in 0..size {
         match normal_blocks::lookup(map, from + k) {
             Place::At(at) => {
-                threes::add_part(h, g, n, at, cells, k);
+                frame_parts::add_part(h, g, n, at, cells, k);
             }
             Place::Unmapped => {}
         }
-        s = s + threes::cost_at(cells, k);
+        s = s + frame_parts::cost_at(cells, k);
     }
     s
 }
@@ -238,8 +236,8 @@ fn add_threes(
     let mut c = [0.0; 52];
     let mut from = 0;
     while from < count {
-        let size = lists::batch_size(count, from, BATCH);
-        threes::fill_parts(frames, actions, from, size, normal, offset, weight, &mut c);
+        let size = lists::batch_size(count, from, frame_parts::BATCH);
+        frame_parts::fill_parts(frames, actions, from, size, normal, offset, weight, &mut c);
         sum = add_parts(h, g, map, from, size, &c, sum);
         from = from + size;
     }

@@ -5,7 +5,7 @@ use native.Mathlib.Omega.{arith}
 use borrow.Author.Needs.{needs}
 use lib.ListN.{length}
 use Rattle.lists.specs.Batch.{batch-fits}
-use Rattle.frame_blocks.specs.Parts.{PARTS}
+use Rattle.frame_parts.specs.Parts.{PARTS}
 use Rattle.frame_blocks.specs.Frames.{Summed, summed-none, parts-added, ready-square, ready-upto}
 use Rattle.frame_blocks.proofs.add_threes.Statement.{statement}
 use Rattle.frame_blocks.proofs.add_threes.Tie as tie

@@ -1,11 +1,11 @@
--- `frame_blocks::threes::add_three` meets its contract: three terms, one after the other. Assumes nothing.
+-- `frame_parts::add_three` meets its contract: three terms, one after the other. Assumes nothing.
 use native.Mathlib.Nat.{add-zero}
 use native.Mathlib.Omega.{arith}
 use borrow.Author.Needs.{needs}
 use lib.ListN.{length-set}
 use Rattle.terms.specs.Terms.{addAll, upto, cellAt, segment}
-use Rattle.frame_blocks.proofs.threes.add_three.Statement.{statement}
-use Rattle.frame_blocks.proofs.threes.add_three.Tie as tie
+use Rattle.frame_parts.proofs.add_three.Statement.{statement}
+use Rattle.frame_parts.proofs.add_three.Tie as tie
 
 returns : tie.Need-returns
 unfolding addAll segment upto cellAt

@@ -1,9 +1,9 @@
--- `frame_blocks::threes::add_part` meets its contract: three columns and the vector. Assumes nothing.
+-- `frame_parts::add_part` meets its contract: three columns and the vector. Assumes nothing.
 use native.Mathlib.Omega.{arith}
 use borrow.Author.Needs.{needs}
-use Rattle.frame_blocks.specs.Parts.{columns-end, part-added}
-use Rattle.frame_blocks.proofs.threes.add_part.Statement.{statement}
-use Rattle.frame_blocks.proofs.threes.add_part.Tie as tie
+use Rattle.frame_parts.specs.Parts.{columns-end, part-added}
+use Rattle.frame_parts.proofs.add_part.Statement.{statement}
+use Rattle.frame_parts.proofs.add_part.Tie as tie
 
 returns : tie.Need-returns
 returns c =

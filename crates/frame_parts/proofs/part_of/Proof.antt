@@ -1,8 +1,8 @@
--- `frame_blocks::threes::part_of` meets its contract: of the rows that the calls make, the numbers are the part. Assumes nothing.
+-- `frame_parts::part_of` meets its contract: of the rows that the calls make, the numbers are the part. Assumes nothing.
 use borrow.Author.Needs.{needs}
-use Rattle.frame_blocks.specs.Parts.{part-is}
-use Rattle.frame_blocks.proofs.threes.part_of.Statement.{statement}
-use Rattle.frame_blocks.proofs.threes.part_of.Tie as tie
+use Rattle.frame_parts.specs.Parts.{part-is}
+use Rattle.frame_parts.proofs.part_of.Statement.{statement}
+use Rattle.frame_parts.proofs.part_of.Tie as tie
 
 returns : tie.Need-returns
 returns c =

@@ -24,11 +24,13 @@ use Rattle.frame_cost.specs.Cost.{pullOf, frameAlong, frameCost}
 use Rattle.frame_cost.specs.declared.Pull.{Pull}
 use Rattle.frame_segment.specs.Frame.{blockEntry, pulledEntry}
 use Rattle.frame_segment.specs.Steps.{columnEntry, rowsEntry, rowsVector, Added, entry-is, vector-is}
-use Rattle.frame_blocks.specs.Frame.{vectorEntry}
-use Rattle.frame_blocks.specs.Pulls.{BATCH}
-use Rattle.frame_blocks.specs.declared.threes.Part.{Part}
+use Rattle.frame_parts.specs.Frame.{vectorEntry}
+use Rattle.frame_parts.specs.declared.Part.{Part}
 
--- how many numbers a part is, and how many those of a batch are
+-- the most frames of a batch, how many numbers a part is, and how many those of a batch are
+abbrev pub BATCH : ℕ
+BATCH = 4
+
 abbrev pub PART : ℕ
 PART = 13
 

@@ -1,14 +1,13 @@
--- `frame_blocks::threes::fill_parts` meets its contract: after k turns the parts of the batch's first k frames are there. Assumes nothing.
+-- `frame_parts::fill_parts` meets its contract: after k turns the parts of the batch's first k frames are there. Assumes nothing.
 use Prim.Native.Nat.{_+_, _≤_, _-_}
 use mathlib.Core.Path.{_≡_, refl}
 use native.Mathlib.Omega.{arith}
 use borrow.Author.Needs.{needs}
 use Rattle.batches.specs.Beside.{Beside, beside-none, beside-more}
 use Rattle.plane_fit.specs.Records.{record-length}
-use Rattle.frame_blocks.specs.Pulls.{BATCH}
-use Rattle.frame_blocks.specs.Parts.{PART, numbersOf, partOf, partAt}
-use Rattle.frame_blocks.proofs.threes.fill_parts.Statement.{statement}
-use Rattle.frame_blocks.proofs.threes.fill_parts.Tie as tie
+use Rattle.frame_parts.specs.Parts.{BATCH, PART, numbersOf, partOf, partAt}
+use Rattle.frame_parts.proofs.fill_parts.Statement.{statement}
+use Rattle.frame_parts.proofs.fill_parts.Tie as tie
 
 abbrev Inv-loop : tie.InvT-loop
 Inv-loop frames actions from size normal offset weight cells₀ k₀ cells k =

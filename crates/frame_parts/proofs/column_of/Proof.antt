@@ -1,9 +1,9 @@
--- `frame_blocks::threes::column_of` meets its contract: the sums as they stand. Assumes nothing.
+-- `frame_parts::column_of` meets its contract: the sums as they stand. Assumes nothing.
 use borrow.Author.Needs.{needs}
 use Rattle.derivative.specs.Derivative.{combined}
 use Rattle.frame_segment.specs.Steps.{columnEntry}
-use Rattle.frame_blocks.proofs.threes.column_of.Statement.{statement}
-use Rattle.frame_blocks.proofs.threes.column_of.Tie as tie
+use Rattle.frame_parts.proofs.column_of.Statement.{statement}
+use Rattle.frame_parts.proofs.column_of.Tie as tie
 
 returns : tie.Need-returns
 unfolding columnEntry combined

@@ -1,9 +1,9 @@
--- `frame_blocks::threes::vector_of` meets its contract: the sums as they stand. Assumes nothing.
+-- `frame_parts::vector_of` meets its contract: the sums as they stand. Assumes nothing.
 use borrow.Author.Needs.{needs}
 use Rattle.derivative.specs.Derivative.{combined}
 use Rattle.frame_segment.specs.Steps.{rowsVector}
-use Rattle.frame_blocks.proofs.threes.vector_of.Statement.{statement}
-use Rattle.frame_blocks.proofs.threes.vector_of.Tie as tie
+use Rattle.frame_parts.proofs.vector_of.Statement.{statement}
+use Rattle.frame_parts.proofs.vector_of.Tie as tie
 
 returns : tie.Need-returns
 unfolding rowsVector combined

@@ -1,6 +1,5 @@
 // Frames of three columns. Two numbers of one column make a vector of the machine's and the third is left over, so that frames are worked out
 // side by side: the block, the vector and the cost of each frame of a batch, and then one frame's added at its segment.
-use crate::BATCH;
 use derivative::ACTION;
 use derivative::AXIS_X;
 use derivative::AXIS_Y;
@@ -18,8 +17,10 @@ ghost use Rattle.terms.specs.Terms.{addAll, segment};
 ghost use Rattle.derivative.specs.Action.{actionSize};
 ghost use Rattle.point_moments.specs.Scatter.{CENTRED};
 ghost use Rattle.frame_segment.specs.Steps.{columnEntry, rowsVector, Added};
-ghost use Rattle.frame_blocks.specs.Pulls.{BATCH};
-ghost use Rattle.frame_blocks.specs.Parts.{PART, PARTS, numbersOf, partOf, partAt, threeIn, blockIn, vectorIn, costIn};
+ghost use Rattle.frame_parts.specs.Parts.{BATCH, PART, PARTS, numbersOf, partOf, partAt, threeIn, blockIn, vectorIn, costIn};
+
+// How many frames' parts are worked out before they are added.
+pub const BATCH: usize = 4;
 
 // What a frame of three columns adds: its block by columns, its vector, and its cost.
 pub struct Part {

@@ -1,8 +1,8 @@
--- `frame_blocks::threes::three_at` meets its contract: the numbers e, e + 1 and e + 2 of the part. Assumes nothing.
+-- `frame_parts::three_at` meets its contract: the numbers e, e + 1 and e + 2 of the part. Assumes nothing.
 use borrow.Author.Needs.{needs}
-use Rattle.frame_blocks.specs.Parts.{three-is}
-use Rattle.frame_blocks.proofs.threes.three_at.Statement.{statement}
-use Rattle.frame_blocks.proofs.threes.three_at.Tie as tie
+use Rattle.frame_parts.specs.Parts.{three-is}
+use Rattle.frame_parts.proofs.three_at.Statement.{statement}
+use Rattle.frame_parts.proofs.three_at.Tie as tie
 
 returns : tie.Need-returns
 returns c =
