@@ -12,7 +12,6 @@ ghost use mathlib.Core.Path.{_≡_};
 ghost use lib.ListN.{length};
 
 struct Head {
-    call: u32,
     answer: u32,
     numbers: u32,
     patterns: u32,
@@ -22,12 +21,15 @@ struct Head {
 fn head_at(sample: &[u8], at: usize) -> Head {
     let h = unit(sample, at);
     Head {
-        call: h & 0xff,
         answer: h >> 8 & 0xff,
         numbers: h >> 16 & 0xf,
         patterns: h >> 20 & 0xf,
         words: h >> 24 & 0xf,
     }
+}
+
+fn call_at(sample: &[u8], at: usize) -> u32 {
+    unit(sample, at) & 0xff
 }
 
 fn place(x: u32) -> usize {
@@ -202,8 +204,27 @@ fn with_all(
     v: &mut [u32],
     w: &mut [u32],
 ) -> bool {
+    let answer = made(call_at(sample, at), a, b, c, d, e, f, g, p, u, v, w);
+    are_left(sample, at, answer, a, b, c, d, e, f, g, u, v, w)
+}
+
+// Whether the call answered what it should, and left the lists so.
+fn are_left(
+    sample: &[u8],
+    at: usize,
+    answer: u32,
+    a: &[f64],
+    b: &[f64],
+    c: &[f64],
+    d: &[f64],
+    e: &[f64],
+    f: &[f64],
+    g: &[f64],
+    u: &[u32],
+    v: &[u32],
+    w: &[u32],
+) -> bool {
     let h = head_at(sample, at);
-    let answer = made(h.call, a, b, c, d, e, f, g, p, u, v, w);
     let from = later(sample, at);
     answer == h.answer
         && are_all_numbers(sample, from, h.numbers, a, b, c, d, e, f, g)
