@@ -1,252 +1,253 @@
 // The calls of the library by their numbers in the sample. The lists of numbers stand in the order of the call's parameters, and so
 // do the words; a single number is a list of one.
+use crate::case;
+use crate::lists::Numbers;
+use crate::lists::kept;
+use crate::lists::left;
+use crate::lists::left_number;
+use crate::lists::left_word;
+use crate::lists::left_words;
+use crate::lists::number;
+use crate::lists::numbers;
+use crate::lists::word;
+use crate::lists::written;
+use crate::lists::wrote;
+use crate::sample;
+use crate::sample::Sample;
 
-fn first_word(u: &[u32]) -> u32 {
-    if u.len() > 0 { u[0] } else { 0 }
+fn from_points(sample: &Sample, at: usize, x: &Numbers) -> bool {
+    let mut moments = [0.0; 8192];
+    let answer = maghnelt::maghnelt_moments_from_points(
+        numbers(sample, at, x, 0),
+        written(sample, at, 1, &mut moments),
+    );
+    wrote(sample, at, answer, x, 1, &moments)
 }
 
-fn put_word(u: &mut [u32], x: u32) {
-    if u.len() > 0 {
-        u[0] = x;
-    }
+fn push(sample: &Sample, at: usize, x: &Numbers) -> bool {
+    let mut moments = [0.0; 8192];
+    let point = numbers(sample, at, x, 1);
+    let answer = maghnelt::maghnelt_moments_push(written(sample, at, 0, &mut moments), point);
+    wrote(sample, at, answer, x, 0, &moments) & left(sample, at, 1, point)
 }
 
-fn first_number(a: &[f64]) -> f64 {
-    if a.len() > 0 { a[0] } else { 0.0 }
+fn merge(sample: &Sample, at: usize, x: &Numbers) -> bool {
+    let mut moments = [0.0; 8192];
+    let other = numbers(sample, at, x, 1);
+    let answer = maghnelt::maghnelt_moments_merge(written(sample, at, 0, &mut moments), other);
+    wrote(sample, at, answer, x, 0, &moments) & left(sample, at, 1, other)
 }
 
-fn put_number(a: &mut [f64], x: f64) {
-    if a.len() > 0 {
-        a[0] = x;
-    }
+fn transformed(sample: &Sample, at: usize, x: &Numbers) -> bool {
+    let mut out = [0.0; 8192];
+    let answer = maghnelt::maghnelt_moments_transformed(
+        numbers(sample, at, x, 0),
+        numbers(sample, at, x, 1),
+        numbers(sample, at, x, 2),
+        written(sample, at, 3, &mut out),
+    );
+    wrote(sample, at, answer, x, 3, &out)
 }
 
-// What no call answers, for a number that is no call's.
-const UNKNOWN: u32 = 255;
-
-pub fn made(
-    call: u32,
-    a: &mut [f64],
-    b: &mut [f64],
-    c: &mut [f64],
-    d: &mut [f64],
-    e: &mut [f64],
-    f: &mut [f64],
-    g: &mut [f64],
-    p: &[u64],
-    u: &mut [u32],
-    v: &mut [u32],
-    w: &mut [u32],
-) -> u32 {
-    if call < 6 {
-        moments_call(call, a, b, c, d, p, u)
-    } else if call < 9 {
-        plane_call(call, a, b, c, d, e, f, g, u, v, w)
-    } else if call < 13 {
-        frames_call(call, a, b, c, d, e, f, g, p, u, v)
-    } else {
-        matches_call(call, a, b, c, d, e, f, u, v)
-    }
+fn mean_and_scatter(sample: &Sample, at: usize, x: &Numbers) -> bool {
+    let mut out = [0.0; 8192];
+    let mut found = word(sample, at, 0);
+    let answer = maghnelt::maghnelt_moments_mean_and_scatter(
+        numbers(sample, at, x, 0),
+        written(sample, at, 1, &mut out),
+        &mut found,
+    );
+    wrote(sample, at, answer, x, 1, &out) & left_word(sample, at, 0, found)
 }
 
-fn moments_call(
-    call: u32,
-    a: &mut [f64],
-    b: &mut [f64],
-    c: &[f64],
-    d: &mut [f64],
-    p: &[u64],
-    u: &mut [u32],
-) -> u32 {
-    match call {
-        0 => maghnelt::maghnelt_moments_from_points(a, b),
-        1 => maghnelt::maghnelt_moments_push(a, b),
-        2 => maghnelt::maghnelt_moments_merge(a, b),
-        3 => maghnelt::maghnelt_moments_transformed(a, b, c, d),
-        4 => mean_and_scatter(a, b, u),
-        _ => plane(a, p, b, u),
-    }
+fn plane(sample: &Sample, at: usize, x: &Numbers, decomposition: &[u64]) -> bool {
+    let mut out = [0.0; 8192];
+    let mut found = word(sample, at, 0);
+    let answer = maghnelt::maghnelt_moments_plane(
+        numbers(sample, at, x, 0),
+        decomposition,
+        written(sample, at, 1, &mut out),
+        &mut found,
+    );
+    wrote(sample, at, answer, x, 1, &out) & left_word(sample, at, 0, found)
 }
 
-fn plane_call(
-    call: u32,
-    a: &[f64],
-    b: &[f64],
-    c: &mut [f64],
-    d: &[f64],
-    e: &[f64],
-    f: &[f64],
-    g: &mut [f64],
-    u: &[u32],
-    v: &[u32],
-    w: &mut [u32],
-) -> u32 {
-    match call {
-        6 => maghnelt::maghnelt_plane_new(a, first_number(b), c),
-        7 => sigma(a, b, c, d, e, f, g),
-        _ => maghnelt::maghnelt_remap(u, v, w),
-    }
+fn plane_new(sample: &Sample, at: usize, x: &Numbers) -> bool {
+    let mut out = [0.0; 8192];
+    let answer = maghnelt::maghnelt_plane_new(
+        numbers(sample, at, x, 0),
+        number(x, 1),
+        written(sample, at, 2, &mut out),
+    );
+    wrote(sample, at, answer, x, 2, &out)
 }
 
-fn frames_call(
-    call: u32,
-    a: &[f64],
-    b: &[f64],
-    c: &[f64],
-    d: &mut [f64],
-    e: &mut [f64],
-    f: &mut [f64],
-    g: &mut [f64],
-    p: &[u64],
-    u: &[u32],
-    v: &mut [u32],
-) -> u32 {
-    match call {
-        9 => maghnelt::maghnelt_frames_fit(first_word(u), a, b, c, d),
-        10 => build(u, a, b, c, d, e, f, v),
-        11 => accumulate(u, a, b, c, d, p, v, e, f, g),
-        _ => maghnelt::maghnelt_frames_linearize(first_word(u), a, b, first_number(c), d, p, e, f),
-    }
+fn sigma(sample: &Sample, at: usize, x: &Numbers) -> bool {
+    let mut sigma = number(x, 6);
+    let answer = maghnelt::maghnelt_point_to_plane_sigma(
+        numbers(sample, at, x, 0),
+        numbers(sample, at, x, 1),
+        numbers(sample, at, x, 2),
+        numbers(sample, at, x, 3),
+        numbers(sample, at, x, 4),
+        numbers(sample, at, x, 5),
+        &mut sigma,
+    );
+    case::answers(sample, at, answer) & kept(sample, at, x, 6) & left_number(sample, at, 6, sigma)
 }
 
-fn matches_call(
-    call: u32,
-    a: &[f64],
-    b: &[f64],
-    c: &mut [f64],
-    d: &mut [f64],
-    e: &mut [f64],
-    f: &mut [f64],
-    u: &[u32],
-    v: &[u32],
-) -> u32 {
-    match call {
-        13 => accumulate_matches(u, a, b, v, c, d, e),
-        14 => maghnelt::maghnelt_matches_linearize(first_word(u), a, b, c, d),
-        15 => match_linearize(u, a, b, c, d, e, f),
-        _ => UNKNOWN,
-    }
+fn remap(sample: &Sample, at: usize, list: &[u32]) -> bool {
+    let mut first = [0; 1100];
+    let map = sample::words(sample, case::words(sample, at, 0), &mut first);
+    let mut out = [0; 1100];
+    let answer = maghnelt::maghnelt_remap(
+        map,
+        list,
+        sample::words(sample, case::words(sample, at, 2), &mut out),
+    );
+    case::answers(sample, at, answer)
+        & left_words(sample, at, 0, map)
+        & left_words(sample, at, 2, &out)
 }
 
-fn mean_and_scatter(moments: &[f64], out: &mut [f64], u: &mut [u32]) -> u32 {
-    let mut found = first_word(u);
-    let answer = maghnelt::maghnelt_moments_mean_and_scatter(moments, out, &mut found);
-    put_word(u, found);
-    answer
+fn fit(sample: &Sample, at: usize, x: &Numbers) -> bool {
+    let mut out = [0.0; 8192];
+    let answer = maghnelt::maghnelt_frames_fit(
+        word(sample, at, 0),
+        numbers(sample, at, x, 0),
+        numbers(sample, at, x, 1),
+        numbers(sample, at, x, 2),
+        written(sample, at, 3, &mut out),
+    );
+    wrote(sample, at, answer, x, 3, &out)
 }
 
-fn plane(moments: &[f64], decomposition: &[u64], out: &mut [f64], u: &mut [u32]) -> u32 {
-    let mut found = first_word(u);
-    let answer = maghnelt::maghnelt_moments_plane(moments, decomposition, out, &mut found);
-    put_word(u, found);
-    answer
-}
-
-fn sigma(a: &[f64], b: &[f64], c: &[f64], d: &[f64], e: &[f64], f: &[f64], g: &mut [f64]) -> u32 {
-    let mut sigma = first_number(g);
-    let answer = maghnelt::maghnelt_point_to_plane_sigma(a, b, c, d, e, f, &mut sigma);
-    put_number(g, sigma);
-    answer
-}
-
-fn build(
-    dof: &[u32],
-    frames: &[f64],
-    fixed: &[f64],
-    sigma: &[f64],
-    centred_frames: &mut [f64],
-    centred_fixed: &mut [f64],
-    f: &mut [f64],
-    v: &mut [u32],
-) -> u32 {
-    let mut points = first_number(f);
-    let mut dropped = first_word(v);
+fn build(sample: &Sample, at: usize, x: &Numbers) -> bool {
+    let mut centred_frames = [0.0; 8192];
+    let mut centred_fixed = [0.0; 8192];
+    let mut points = number(x, 5);
+    let mut dropped = word(sample, at, 1);
     let answer = maghnelt::maghnelt_frames_build(
-        first_word(dof),
-        frames,
-        fixed,
-        first_number(sigma),
-        centred_frames,
-        centred_fixed,
+        word(sample, at, 0),
+        numbers(sample, at, x, 0),
+        numbers(sample, at, x, 1),
+        number(x, 2),
+        written(sample, at, 3, &mut centred_frames),
+        written(sample, at, 4, &mut centred_fixed),
         &mut points,
         &mut dropped,
     );
-    put_number(f, points);
-    put_word(v, dropped);
-    answer
+    wrote(sample, at, answer, x, 3, &centred_frames)
+        & left(sample, at, 4, &centred_fixed)
+        & left_number(sample, at, 5, points)
+        & left_word(sample, at, 1, dropped)
 }
 
-fn accumulate(
-    dof: &[u32],
-    frames: &[f64],
-    fixed: &[f64],
-    sigma: &[f64],
-    actions: &[f64],
-    decomposition: &[u64],
-    map: &[u32],
-    hessian: &mut [f64],
-    gradient: &mut [f64],
-    g: &mut [f64],
-) -> u32 {
-    let mut cost = first_number(g);
+fn accumulate(sample: &Sample, at: usize, x: &Numbers, p: &[u64], map: &[u32]) -> bool {
+    let mut hessian = [0.0; 8192];
+    let mut gradient = [0.0; 8192];
+    let mut cost = number(x, 6);
     let answer = maghnelt::maghnelt_frames_accumulate(
-        first_word(dof),
-        frames,
-        fixed,
-        first_number(sigma),
-        actions,
-        decomposition,
+        word(sample, at, 0),
+        numbers(sample, at, x, 0),
+        numbers(sample, at, x, 1),
+        number(x, 2),
+        numbers(sample, at, x, 3),
+        p,
         map,
-        hessian,
-        gradient,
+        written(sample, at, 4, &mut hessian),
+        written(sample, at, 5, &mut gradient),
         &mut cost,
     );
-    put_number(g, cost);
-    answer
+    wrote(sample, at, answer, x, 4, &hessian)
+        & left(sample, at, 5, &gradient)
+        & left_number(sample, at, 6, cost)
 }
 
-fn accumulate_matches(
-    dof: &[u32],
-    matches: &[f64],
-    action: &[f64],
-    map: &[u32],
-    hessian: &mut [f64],
-    gradient: &mut [f64],
-    e: &mut [f64],
-) -> u32 {
-    let mut cost = first_number(e);
+fn linearize(sample: &Sample, at: usize, x: &Numbers, p: &[u64]) -> bool {
+    let mut residual = [0.0; 8192];
+    let mut jacobian = [0.0; 8192];
+    let answer = maghnelt::maghnelt_frames_linearize(
+        word(sample, at, 0),
+        numbers(sample, at, x, 0),
+        numbers(sample, at, x, 1),
+        number(x, 2),
+        numbers(sample, at, x, 3),
+        p,
+        written(sample, at, 4, &mut residual),
+        written(sample, at, 5, &mut jacobian),
+    );
+    wrote(sample, at, answer, x, 4, &residual) & left(sample, at, 5, &jacobian)
+}
+
+fn accumulate_matches(sample: &Sample, at: usize, x: &Numbers, map: &[u32]) -> bool {
+    let mut hessian = [0.0; 8192];
+    let mut gradient = [0.0; 8192];
+    let mut cost = number(x, 4);
     let answer = maghnelt::maghnelt_matches_accumulate(
-        first_word(dof),
-        matches,
-        action,
+        word(sample, at, 0),
+        numbers(sample, at, x, 0),
+        numbers(sample, at, x, 1),
         map,
-        hessian,
-        gradient,
+        written(sample, at, 2, &mut hessian),
+        written(sample, at, 3, &mut gradient),
         &mut cost,
     );
-    put_number(e, cost);
-    answer
+    wrote(sample, at, answer, x, 2, &hessian)
+        & left(sample, at, 3, &gradient)
+        & left_number(sample, at, 4, cost)
 }
 
-fn match_linearize(
-    dof: &[u32],
-    one: &[f64],
-    world: &[f64],
-    d_state: &[f64],
-    d_extrinsic: &[f64],
-    e: &mut [f64],
-    row: &mut [f64],
-) -> u32 {
-    let mut residual = first_number(e);
-    let answer = maghnelt::maghnelt_match_linearize(
-        first_word(dof),
-        one,
-        world,
-        d_state,
-        d_extrinsic,
-        &mut residual,
-        row,
+fn linearize_matches(sample: &Sample, at: usize, x: &Numbers) -> bool {
+    let mut residual = [0.0; 8192];
+    let mut jacobian = [0.0; 8192];
+    let answer = maghnelt::maghnelt_matches_linearize(
+        word(sample, at, 0),
+        numbers(sample, at, x, 0),
+        numbers(sample, at, x, 1),
+        written(sample, at, 2, &mut residual),
+        written(sample, at, 3, &mut jacobian),
     );
-    put_number(e, residual);
-    answer
+    wrote(sample, at, answer, x, 2, &residual) & left(sample, at, 3, &jacobian)
+}
+
+fn linearize_match(sample: &Sample, at: usize, x: &Numbers) -> bool {
+    let mut residual = number(x, 4);
+    let mut row = [0.0; 8192];
+    let answer = maghnelt::maghnelt_match_linearize(
+        word(sample, at, 0),
+        numbers(sample, at, x, 0),
+        numbers(sample, at, x, 1),
+        numbers(sample, at, x, 2),
+        numbers(sample, at, x, 3),
+        &mut residual,
+        written(sample, at, 5, &mut row),
+    );
+    case::answers(sample, at, answer)
+        & kept(sample, at, x, 4)
+        & left_number(sample, at, 4, residual)
+        & left(sample, at, 5, &row)
+}
+
+// Whether a case's call answers and leaves what it should, but for the words that no call of its kind writes.
+pub fn agrees(sample: &Sample, at: usize, x: &Numbers, p: &[u64], map: &[u32]) -> bool {
+    match case::call(sample, at) {
+        0 => from_points(sample, at, x),
+        1 => push(sample, at, x),
+        2 => merge(sample, at, x),
+        3 => transformed(sample, at, x),
+        4 => mean_and_scatter(sample, at, x),
+        5 => plane(sample, at, x, p),
+        6 => plane_new(sample, at, x),
+        7 => sigma(sample, at, x),
+        8 => remap(sample, at, map),
+        9 => fit(sample, at, x),
+        10 => build(sample, at, x),
+        11 => accumulate(sample, at, x, p, map),
+        12 => linearize(sample, at, x, p),
+        13 => accumulate_matches(sample, at, x, map),
+        14 => linearize_matches(sample, at, x),
+        15 => linearize_match(sample, at, x),
+        _ => false,
+    }
 }

@@ -2,29 +2,25 @@
 // its length in entries, in 13. Of up to 32 numbers one unit says which are not +0, the first by the least bit, and these follow, two
 // units each; a word takes one unit.
 ghost use Prim.Native.Nat.{_≤_};
-ghost use mathlib.Core.Path.{_≡_};
-ghost use lib.ListN.{length};
-ghost use Rattle.replay.specs.Counts.{Counts};
+
+// The sample, and zeros after it.
+pub type Sample = [u8; 600000];
 
 fn wide(x: u8) -> u32 {
     x as u32
 }
 
-fn place(x: u32) -> usize {
+pub fn place(x: u32) -> usize {
     x as usize
 }
 
 // A byte; 0 past the end.
-fn byte(sample: &[u8], at: usize) -> u32 {
-    if at < sample.len() {
-        wide(sample[at])
-    } else {
-        0
-    }
+fn byte(sample: &Sample, at: usize) -> u32 {
+    if at < 600000 { wide(sample[at]) } else { 0 }
 }
 
 // A unit; 0 past the end.
-pub fn unit(sample: &[u8], unit: usize) -> u32 {
+pub fn unit(sample: &Sample, unit: usize) -> u32 {
     let at = unit << 2;
     let a = byte(sample, at);
     let b = byte(sample, at | 1);
@@ -54,7 +50,7 @@ fn begun(list: u32) -> Cursor {
 }
 
 // At number k, after the one before it.
-fn stepped(sample: &[u8], c: Cursor, k: usize) -> Cursor {
+fn stepped(sample: &Sample, c: Cursor, k: usize) -> Cursor {
     if k & 31 == 0 {
         let others = unit(sample, c.at);
         taken(sample, std::num::wrapping_add_usize(c.at, 1), others)
@@ -63,7 +59,7 @@ fn stepped(sample: &[u8], c: Cursor, k: usize) -> Cursor {
     }
 }
 
-fn taken(sample: &[u8], at: usize, others: u32) -> Cursor {
+fn taken(sample: &Sample, at: usize, others: u32) -> Cursor {
     if others & 1 == 0 {
         return Cursor {
             at: at,
@@ -81,23 +77,21 @@ fn taken(sample: &[u8], at: usize, others: u32) -> Cursor {
 }
 
 // Entry k of a list of words.
-fn word(sample: &[u8], list: u32, k: usize) -> u32 {
+pub fn word(sample: &Sample, list: u32, k: usize) -> u32 {
     unit(
         sample,
         std::num::wrapping_add_usize(place(list & 0x7_ffff), k),
     )
 }
 
-fn least(a: usize, b: usize) -> usize
+pub fn least(a: usize, b: usize) -> usize
     ensures { λ r. ⌜ r ≤ b ⌝ }
 {
     if a < b { a } else { b }
 }
 
-// Reads a list of numbers into the start of `out`, as many as it has room for, and says how many.
-pub fn numbers(sample: &[u8], list: u32, out: &mut [f64]) -> usize
-    ensures { λ r. ⌜ Counts r (now (out .exit)) ⌝ }
-{
+// Reads a list of numbers into the start of `out`, as many as it has room for, and lends them.
+pub fn numbers<'a>(sample: &Sample, list: u32, out: &'a mut [f64]) -> &'a mut [f64] {
     let n = least(place(list >> 19), out.len());
     let mut c = begun(list);
     let mut k = 0;
@@ -106,13 +100,11 @@ pub fn numbers(sample: &[u8], list: u32, out: &mut [f64]) -> usize
         out[k] = total_order::number(c.pattern);
         k += 1;
     }
-    n
+    &mut out[0..n]
 }
 
 // Reads a list of numbers by their patterns.
-pub fn patterns(sample: &[u8], list: u32, out: &mut [u64]) -> usize
-    ensures { λ r. ⌜ Counts r (now (out .exit)) ⌝ }
-{
+pub fn patterns<'a>(sample: &Sample, list: u32, out: &'a mut [u64]) -> &'a mut [u64] {
     let n = least(place(list >> 19), out.len());
     let mut c = begun(list);
     let mut k = 0;
@@ -121,20 +113,18 @@ pub fn patterns(sample: &[u8], list: u32, out: &mut [u64]) -> usize
         out[k] = c.pattern;
         k += 1;
     }
-    n
+    &mut out[0..n]
 }
 
 // Reads a list of words.
-pub fn words(sample: &[u8], list: u32, out: &mut [u32]) -> usize
-    ensures { λ r. ⌜ Counts r (now (out .exit)) ⌝ }
-{
+pub fn words<'a>(sample: &Sample, list: u32, out: &'a mut [u32]) -> &'a mut [u32] {
     let n = least(place(list >> 19), out.len());
     let mut k = 0;
     while k < n {
         out[k] = word(sample, list, k);
         k += 1;
     }
-    n
+    &mut out[0..n]
 }
 
 // The pattern of a number; of a NaN the quiet one without payload, since `to_bits` is not asked of NaNs.
@@ -146,14 +136,15 @@ fn bits_of(x: f64) -> u64 {
     }
 }
 
-// Whether numbers are those of a list, any NaN for a NaN.
-pub fn are_numbers(sample: &[u8], list: u32, found: &[f64]) -> bool {
-    if found.len() != place(list >> 19) {
+// Whether `found` begins with the numbers of a list, any NaN for a NaN.
+pub fn are_numbers(sample: &Sample, list: u32, found: &[f64]) -> bool {
+    let n = place(list >> 19);
+    if found.len() < n {
         return false;
     }
     let mut c = begun(list);
     let mut k = 0;
-    while k < found.len() {
+    while k < n {
         c = stepped(sample, c, k);
         if bits_of(total_order::number(c.pattern)) != bits_of(found[k]) {
             return false;
@@ -163,13 +154,14 @@ pub fn are_numbers(sample: &[u8], list: u32, found: &[f64]) -> bool {
     true
 }
 
-// Whether words are those of a list.
-pub fn are_words(sample: &[u8], list: u32, found: &[u32]) -> bool {
-    if found.len() != place(list >> 19) {
+// Whether `found` begins with the words of a list.
+pub fn are_words(sample: &Sample, list: u32, found: &[u32]) -> bool {
+    let n = place(list >> 19);
+    if found.len() < n {
         return false;
     }
     let mut k = 0;
-    while k < found.len() {
+    while k < n {
         if word(sample, list, k) != found[k] {
             return false;
         }

@@ -6,10 +6,10 @@ use Rattle.replay.proofs.sample.are_numbers.Statement.{statement}
 use Rattle.replay.proofs.sample.are_numbers.Tie as tie
 
 abbrev Inv-loop : tie.InvT-loop
-Inv-loop sample list found c₀ k₀ c k = k ≤ length found
+Inv-loop sample list found n c₀ k₀ c k = n ≤ length found
 
 abbrev μ-loop : tie.MeasureT-loop
-μ-loop sample list found c₀ k₀ c k = length found - k
+μ-loop sample list found n c₀ k₀ c k = n - k
 
 pub are-numbers-spec : {M : Type 1} → statement M
 are-numbers-spec =
