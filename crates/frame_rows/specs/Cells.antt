@@ -4,7 +4,7 @@ use native.Mathlib.Nat.{add-mul, mul-add, mul-assoc, mul-zero, mod-lt, div-add-m
 use native.Mathlib.Omega.{arith}
 use mathlib.Core.Path.{_≡_, refl, sym, ap, ap₂, _∙_}
 use mathlib.Core.List.{List}
-use mathlib.Core.Bool.{Bool, true, false}
+use mathlib.Core.Bool.{Bool, true, false, cond}
 use lib.Dec.{eqb, ltb}
 use lib.ListN.{length, replicate, length-replicate, getD-replicate}
 use lib.Seq.{ext-getD}
@@ -25,7 +25,9 @@ module _ (dof f c : ℕ) (inside : c < dof) (frames actions : List Float) (ds : 
   block-is k h =
       let d : (f * 4 + k) / 4 ≡ f = omega arith in
       let m : (f * 4 + k) % 4 ≡ k = omega arith in
-      rw (number-at dof f c inside, thing-at dof f c inside, d, m, eq-eqb f f refl)
+      let own : eqb ((f * 4 + k) / 4) ((f * dof + c) / dof) ≡ true = eq-eqb ((f * 4 + k) / 4) ((f * dof + c) / dof) (d ∙ sym (number-at dof f c inside)) in
+      ap (λ b. cond b (blockCell frames actions ds n info ((f * dof + c) / dof) ((f * dof + c) % dof) ((f * 4 + k) % 4)) zeroF) own
+      ∙ rw (number-at dof f c inside, thing-at dof f c inside, m)
 
   pub beside-is : (row : ℕ) → (row / 4 ≡ f → ⊥) → jacobianCell frames actions ds n info dof row (f * dof + c) ≡ zeroF
   unfolding jacobianCell
