@@ -2,6 +2,7 @@
 ghost use mathlib.Core.Path.{_≡_};
 ghost use Prim.Native.Nat.{_^_, _≤_, _<_};
 ghost use lib.Ieee.{binary64, ofBits};
+ghost use Rattle.square_root.specs.Computed.{squareRoot};
 ghost use Rattle.total_order.specs.Three.{orderOf};
 ghost use Rattle.probe.specs.Digits.{digitsOf};
 ghost use Rattle.probe.specs.Along.{Along};
@@ -33,6 +34,20 @@ pub extern "C" fn probe_root_guess(n: u64) -> u64
     } else {
         0
     }
+}
+
+// A guess of a root's digits, of which nothing is said.
+#[no_mangle]
+pub extern "C" fn probe_guess(x: f64) -> u64 {
+    square_root::guess::of(x)
+}
+
+// The square root from any guess.
+#[no_mangle]
+pub extern "C" fn probe_sqrt_by(x: f64, guess: u64) -> f64
+    ensures { λ r. ⌜ r ≡ squareRoot x ⌝ }
+{
+    square_root::sqrt_by(x, guess)
 }
 
 // The derivative row of a plane's distance at a point.

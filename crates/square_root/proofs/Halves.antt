@@ -1,11 +1,11 @@
 -- `root54`, in the numbers that it computes with: n of 53 or 54 digits, s the whole part of its root. Assumes nothing.
 use mathlib.Core.Path.{_≡_, sym, ap, _∙_, subst}
 use Prim.Native.Nat.{ℕ, zero, suc, _+_, _-_, _*_, _/_, _%_, _^_, _≤_, _<_}
-use native.Mathlib.Nat.{le-trans, lt-of-lt-of-le, lt-of-not-le, le-of-suc-le-suc, not-le-of-lt, div-add-mod', mod-lt, div-lt-iff-lt-mul}
+use native.Mathlib.Nat.{mul-comm, le-trans, lt-of-lt-of-le, lt-of-not-le, le-of-suc-le-suc, not-le-of-lt, div-add-mod', mod-lt, div-lt-iff-lt-mul}
 use native.Mathlib.Omega.{arith}
 use lib.Dec.{lit<}
 use Rattle.square_root.specs.Steps.{Root}
-use Rattle.square_root.proofs.Karatsuba.{square, squares, as-it-is, one-less}
+use Rattle.square_root.proofs.Karatsuba.{square, squares, between, as-it-is, one-less}
 
 module _ (n s : ℕ) (w : Root n s) (lo : 2 ^ 52 ≤ n) (hi : n < 2 ^ 54) where
   pub s-hi : s < 2 ^ 27
@@ -78,3 +78,12 @@ module _ (n s : ℕ) (w : Root n s) (lo : 2 ^ 52 ≤ n) (hi : n < 2 ^ 54) where
 
       twice : (x : ℕ) → 2 ^ 26 ≤ x → 2 ^ 27 ≤ 2 * x
       twice x h = omega arith
+
+-- `is_root`, in the numbers that it computes with: s and q are the halves of a guess g, a and u what they leave over
+pub guessed : (n g s q a u : ℕ) → s ≡ g / 2 ^ 27 → q ≡ g % 2 ^ 27 → s * s ≤ n → a ≡ n - s * s → a < 2 ^ 29 → 2 * s * q ≤ a * 2 ^ 27 % 2 ^ 64 → u ≡ a * 2 ^ 27 % 2 ^ 64 - 2 * s * q → u < 2 ^ 29
+    → q * q ≤ u * 2 ^ 27 % 2 ^ 64 → u * 2 ^ 27 % 2 ^ 64 - q * q ≤ 2 * g → Root (n * 2 ^ 54) g
+guessed n g s q a u es eq low ea small fits eu few reach most =
+    let halves : s * 2 ^ 27 + q ≡ g = omega arith in
+    let split : s * s + a ≡ n = omega arith in
+    let left : a * 2 ^ 27 ≡ q * (2 * s) + u = let c = mul-comm q (2 * s) in omega arith in
+    subst (λ (r : ℕ). Root (n * 2 ^ 54) r) halves (between s (2 ^ 27) q u a n split left (omega arith) (omega arith))

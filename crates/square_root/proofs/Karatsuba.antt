@@ -31,20 +31,20 @@ whole s b q u r n e f =
     two = simp (add-mul, mul-assoc, mul-comm, mul-left-comm, add-assoc, add-comm, add-left-comm) refl
 
 module _ (s b q u r n : ℕ) (e : s * s + r ≡ n) (f : r * b ≡ q * (2 * s) + u) where
-  -- where u * b reaches q * q
-  pub as-it-is : 0 < b → u < 2 * s → q * q ≤ u * b → Root (n * (b * b)) (s * b + q)
-  as-it-is B U h =
+  -- where u * b reaches q * q, and does not go further beyond it than a root leaves over
+  pub between : q * q ≤ u * b → u * b ≤ q * q + 2 * (s * b + q) → Root (n * (b * b)) (s * b + q)
+  between h j =
       let w = whole s b q u r n e f in
       let lo = square (s * b) q in
-      let hi = square (s * b) (q + 1) in
-      let nx = next (s * b) q in
+      let hi = square (s * b + q) 1 in
+      record { low = omega arith; high = omega arith }
+
+  -- as it does not where u is a remainder
+  pub as-it-is : 0 < b → u < 2 * s → q * q ≤ u * b → Root (n * (b * b)) (s * b + q)
+  as-it-is B U h =
       let ub : u * b < 2 * s * b = mul-lt-mul-of-pos-right U B in
       let ac = mul-assoc 2 s b in
-      let g = add-assoc (s * b) q 1 in
-      record {
-        low = omega arith;
-        high = subst (λ (k : ℕ). n * (b * b) < k * k) (sym g) (omega arith);
-      }
+      between h (omega arith)
 
   -- and where it does not
   pub one-less : (p : ℕ) → q ≡ p + 1 → r ≤ 2 * s → 0 < s → b ≤ 2 * s → u * b < q * q → Root (n * (b * b)) (s * b + p)

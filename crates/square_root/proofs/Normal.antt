@@ -25,7 +25,7 @@ either m (suc (suc o)) lo hi h = absurd (none o h)
     none o h = omega arith
 
 module _ (m l : ℕ) (lo : 2 ^ 52 ≤ m) (hi : m < 2 ^ 53) where
-  range : (2 ^ 52 ≤ m * 2 ^ (l % 2)) × (m * 2 ^ (l % 2) ≤ 2 ^ 54 - 2)
+  pub range : (2 ^ 52 ≤ m * 2 ^ (l % 2)) × (m * 2 ^ (l % 2) ≤ 2 ^ 54 - 2)
   range = either m (l % 2) lo hi (mod-lt l (lit< tt))
 
   pub even-is : even m l ≡ m * 2 ^ (l % 2)
@@ -35,6 +35,9 @@ module _ (m l : ℕ) (lo : 2 ^ 52 ≤ m) (hi : m < 2 ^ 53) where
   even-range = subst (λ (h : ℕ). (2 ^ 52 ≤ h) × (h ≤ 2 ^ 54 - 2)) (sym even-is) range
 
 -- ---- a pattern of a normal value
+pub normal-range : (b t : ℕ) → b < 0x7ff0_0000_0000_0000 → t < 2 ^ 52 → (2 ^ 52 ≤ t + 2 ^ 52) × (t + 2 ^ 52 < 2 ^ 53) × (1022 ≤ b / 2 ^ 52 + 1073) × (b / 2 ^ 52 + 1073 < 3120)
+normal-range b t h k = (omega arith, omega arith, omega arith, omega arith)
+
 module _ (b : ℕ) (norm : 2 ^ 52 ≤ b) where
   pub normal-units : (bitAnd b (2 ^ 52 - 1) + 2 ^ 52) * 2 ^ (b / 2 ^ 52 + 1073) ≡ unitsOf b * 2 ^ 1074
   unfolding unitsOf

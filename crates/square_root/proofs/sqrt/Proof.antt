@@ -10,6 +10,7 @@ use Rattle.square_root.specs.SquareRoot.{IsSquareRoot}
 use Rattle.square_root.specs.Computed.{squareRoot}
 use Rattle.square_root.proofs.Laws.{squareRoot-only}
 use Rattle.square_root.proofs.Patterns as P
+use Rattle.square_root.proofs.Cases.{nan-is, bits-is}
 use Rattle.square_root.proofs.sqrt.Statement.{statement}
 use Rattle.square_root.proofs.sqrt.Tie as tie
 
@@ -21,10 +22,7 @@ held c = subst T (sym (c .good .0 .1)) tt
 only : (c : tie.Start) {r : Float} → IsSquareRoot binary64 (c .args .x) r → r ≡ squareRoot (c .args .x)
 only c {r} p = squareRoot-only (c .args .x) r (held c) p
 
--- from the pattern's value to the value
-from-bits : (x r : Float) → T (fits binary64 x) → IsSquareRoot binary64 (ofBits binary64 (toBits binary64 x)) r → IsSquareRoot binary64 x r
-from-bits x r h s = subst (λ (y : Float). IsSquareRoot binary64 y r) (ofBits-toBits binary64 x h) s
-
+-- a value whose pattern is its own root's
 as-they-are : (x : Float) (b : ℕ) → T (fits binary64 x) → toBits binary64 x ≡ b → IsSquareRoot binary64 (ofBits binary64 b) (ofBits binary64 b) → IsSquareRoot binary64 x x
 as-they-are x b h e s = subst (λ (y : Float). IsSquareRoot binary64 y y) (ap (ofBits binary64) (sym e) ∙ ofBits-toBits binary64 x h) s
 
@@ -45,8 +43,7 @@ float-from-bits-result : tie.Need-float-from-bits-result
 float-from-bits-result c = P.root-no-nan _ (c .sqrt-bits .result) (c .sqrt-bits .ensures)
 
 returns : tie.Need-returns
-returns c =
-    only (c .before) (subst (λ (y : Float). IsSquareRoot binary64 y y) (sym (P.is-nan (c .before .args .x) (c .if1 .taken))) P.at-nan)
+returns c = nan-is (c .before .args .x) (held (c .before)) (c .if1 .taken)
 
 returns-2 : tie.Need-returns-2
 returns-2 c =
@@ -72,9 +69,7 @@ returns-5 c =
 returns-6 : tie.Need-returns-6
 returns-6 c =
     let s = c .before .before .before .before .before in
-    let b = toBits binary64 (s .args .x) in
-    only s (from-bits (s .args .x) (ofBits binary64 (c .sqrt-bits .result)) (held s)
-    (P.main b (c .sqrt-bits .result) (some b (c .before .before .if4 .left)) (c .before .if5 .left) (c .sqrt-bits .ensures)))
+    bits-is (s .args .x) (held s) (c .sqrt-bits .result) (some _ (c .before .before .if4 .left)) (c .before .if5 .left) (c .sqrt-bits .ensures)
 
 pub sqrt-spec : {M : Type 1} → statement M
 sqrt-spec =
