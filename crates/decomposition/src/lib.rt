@@ -1,7 +1,9 @@
 // A decomposition that the host hands in as twelve bit patterns: three eigenvalues, then their three vectors, in any order.
 ghost use mathlib.Core.Path.{_≡_};
+ghost use mathlib.Core.List.{[], _∷_};
 ghost use Prim.Native.Nat.{_<_};
 ghost use lib.ListN.{length};
+ghost use lib.Ieee.{binary64, ofBits};
 ghost use Rattle.decomposition.specs.Axes.{DECOMPOSITION, numberAt, vectorOf, risingOf};
 
 // How many patterns a decomposition is.
@@ -48,8 +50,30 @@ pub fn vector(d: &[u64], k: usize) -> [f64; 3]
     ensures { λ r. ⌜ r ≡ vectorOf (now (d .entry)) k ⌝ }
 {
     let at = k * 3 + 3;
-    let x = total_order::number(d[at]);
-    let y = total_order::number(d[at + 1]);
-    let z = total_order::number(d[at + 2]);
+    numbers(d[at], d[at + 1], d[at + 2])
+}
+
+// The values of three patterns. Where none is a NaN's, that is three tests and no choice of a value, of which the compiler would make slow vector code.
+fn numbers(a: u64, b: u64, c: u64) -> [f64; 3]
+    ensures { λ r. ⌜ r ≡ (ofBits binary64 a ∷ ofBits binary64 b ∷ ofBits binary64 c ∷ []) ⌝ }
+{
+    if total_order::is_nan(a) {
+        return each_number(a, b, c);
+    }
+    if total_order::is_nan(b) {
+        return each_number(a, b, c);
+    }
+    if total_order::is_nan(c) {
+        return each_number(a, b, c);
+    }
+    [f64::from_bits(a), f64::from_bits(b), f64::from_bits(c)]
+}
+
+fn each_number(a: u64, b: u64, c: u64) -> [f64; 3]
+    ensures { λ r. ⌜ r ≡ (ofBits binary64 a ∷ ofBits binary64 b ∷ ofBits binary64 c ∷ []) ⌝ }
+{
+    let x = total_order::number(a);
+    let y = total_order::number(b);
+    let z = total_order::number(c);
     [x, y, z]
 }

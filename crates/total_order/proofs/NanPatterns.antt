@@ -22,8 +22,8 @@ only-nan nan h = refl
 only-nan (inf s) h = cc
 only-nan (fin s m e) h = cc
 
-pub nan-pattern : (b : ℕ) → top < b % 2 ^ 63 → ofBits binary64 b ≡ nan
-nan-pattern b h = only-nan (ofBits binary64 b) (sym (nanBits-is binary64 b) ∙ is-nan b h)
+pub nan-pattern : (b : ℕ) → nanBits binary64 b ≡ true → ofBits binary64 b ≡ nan
+nan-pattern b h = only-nan (ofBits binary64 b) (sym (nanBits-is binary64 b) ∙ h)
 
 pub zero-by-zero : div binary64 (ofBits binary64 0) (ofBits binary64 0) ≡ nan
 unfolding div ofBits

@@ -1,6 +1,6 @@
 // IEEE 754's total order on binary64 bit patterns: the value of a pattern, its key, and the order of three.
 ghost use mathlib.Core.Path.{_≡_};
-ghost use lib.Ieee.{binary64, ofBits};
+ghost use lib.Ieee.{binary64, ofBits, nanBits};
 ghost use Rattle.total_order.specs.Key.{keyOf};
 ghost use Rattle.total_order.specs.TotalOrder.{totalOrder};
 ghost use Rattle.total_order.specs.Three.{orderOf};
@@ -24,12 +24,18 @@ impl Order {
     }
 }
 
+// Whether a bit pattern is a NaN's.
+pub fn is_nan(bits: u64) -> bool
+    ensures { λ r. ⌜ r ≡ nanBits binary64 bits ⌝ }
+{
+    bits % 0x8000_0000_0000_0000 > 0x7ff0_0000_0000_0000
+}
+
 // The value of a bit pattern; a NaN for every NaN pattern, of which `from_bits` takes none.
 pub fn number(bits: u64) -> f64
     ensures { λ r. ⌜ r ≡ ofBits binary64 bits ⌝ }
 {
-    let low = bits % 0x8000_0000_0000_0000;
-    if low > 0x7ff0_0000_0000_0000 {
+    if is_nan(bits) {
         0.0 / 0.0
     } else {
         f64::from_bits(bits)
