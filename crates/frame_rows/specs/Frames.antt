@@ -65,12 +65,11 @@ module _ (count : ℕ) (fixed : List Float) (ds : List ℕ) (n : List Float) (of
       none [] e (suc (suc (suc (suc k)))) h =
           absurd (not-suc-le-zero (le-of-suc-le-suc (le-of-suc-le-suc (le-of-suc-le-suc (le-of-suc-le-suc h)))))
 
-  pub fixed-some : (s : Centred) (d : List ℕ) (root : Root) (e : Float) (four : List Float) → (length fixed ≡ 0 → ⊥) → s ≡ centredOf fixed → d ≡ decompositionAt ds (count + 1) → root ≡ rootOf d (s .count) → e ≡ alongOf n offset (s .mean) → four ≡ rowsOf root n e info
+  pub fixed-some : (s : Centred) (d : List ℕ) (e : Float) (four : List Float) → (length fixed ≡ 0 → ⊥) → s ≡ centredOf fixed → d ≡ decompositionAt ds (count + 1) → e ≡ alongOf n offset (s .mean) → four ≡ rowsOf (rootOf d (s .count)) n e info
       → written out at 4 (λ i. four ! i) ≡ written out at 4 (fixedRow count fixed ds n offset info)
   unfolding fixedRow
-  fixed-some s d root e four some hs hd hr he hf =
+  fixed-some s d e four some hs hd he hf =
       written-same out at 4 _ _ (λ k h. ap (λ (l : List Float). l ! k) hf
-      ∙ ap (λ (q : Root). rowsOf q n e info ! k) hr
       ∙ four-is d (s .count) n e info k h
       ∙ ap (λ (y : Float). setRow d (s .count) n y info k) he
       ∙ ap (λ (y : List ℕ). setRow y (s .count) n (alongOf n offset (s .mean)) info k) hd

@@ -18,23 +18,15 @@ use derivative::ACTION;
 use point_moments::scatter::CENTRED;
 use point_moments::scatter::Centred;
 
-// The square root of an eigenvalue; one at or below 0 or a NaN has +0.
-fn scale(value: f64) -> f64
+// The square root of an eigenvalue, from a guess of it; one at or below 0 or a NaN has +0.
+fn scale(value: f64, guess: u64) -> f64
     ensures { λ r. ⌜ r ≡ scaleOf value ⌝ }
 {
     if value > 0.0 {
-        square_root::sqrt(value)
+        square_root::sqrt_by(value, guess)
     } else {
         0.0
     }
-}
-
-fn root_row(d: &[u64], k: usize) -> [f64; 3]
-    requires { ⌜ (length (now d) ≡ DECOMPOSITION) × (k < 3) ⌝ }
-    ensures { λ r. ⌜ r ≡ rootRow (now (d .entry)) k ⌝ }
-{
-    let v = decomposition::vector(d, k);
-    linear::scaled3(v, scale(decomposition::value(d, k)))
 }
 
 // A root of a set's scatter by rows, as its decomposition gives it, and the root of its count.
@@ -46,14 +38,18 @@ pub struct Root {
 }
 
 impl Root {
-    fn of(d: &[u64], count: f64) -> Root
+    // From guesses of the roots of its eigenvalues and of its count.
+    fn of(d: &[u64], count: f64, guesses: [u64; 4]) -> Root
         requires { ⌜ length (now d) ≡ DECOMPOSITION ⌝ }
         ensures { λ r. ⌜ r ≡ rootOf (now (d .entry)) count ⌝ }
     {
-        let first = root_row(d, 0);
-        let second = root_row(d, 1);
-        let third = root_row(d, 2);
-        let last = square_root::sqrt(count);
+        let last = square_root::sqrt_by(count, guesses[3]);
+        let x = scale(decomposition::value(d, 0), guesses[0]);
+        let y = scale(decomposition::value(d, 1), guesses[1]);
+        let z = scale(decomposition::value(d, 2), guesses[2]);
+        let first = linear::scaled3(decomposition::vector(d, 0), x);
+        let second = linear::scaled3(decomposition::vector(d, 1), y);
+        let third = linear::scaled3(decomposition::vector(d, 2), z);
         Root {
             first,
             second,
@@ -148,16 +144,83 @@ fn put_root(roots: &mut [f64; 80], k: usize, root: Root)
     roots[9 * BATCH + k] = root.last;
 }
 
-// The roots of a batch of frames from frame `from` on, number after number: number e of the batch's k-th frame stands at e * BATCH + k.
-fn fill_roots(frames: &[f64], ds: &[u64], from: usize, size: usize, roots: &mut [f64; 80])
+// What roots are taken of: the eigenvalues of a set, and its count.
+fn values_of(d: &[u64], count: f64) -> [f64; 4]
+    requires { ⌜ length (now d) ≡ DECOMPOSITION ⌝ }
+{
+    let x = decomposition::value(d, 0);
+    let y = decomposition::value(d, 1);
+    let z = decomposition::value(d, 2);
+    [x, y, z, count]
+}
+
+// These of a batch of frames, four a frame.
+fn fill_values(frames: &[f64], ds: &[u64], from: usize, size: usize, values: &mut [f64; 32])
+    requires { ⌜ (size ≤ BATCH) × (length (now values) ≡ FOURS) × (CENTRED * (from + size) ≤ length (now frames)) × ((from + size + 1) * DECOMPOSITION ≤ length (now ds)) ⌝ }
+    ensures { λ _. ⌜ length (now (values .exit)) ≡ FOURS ⌝ }
+{
+    for k in 0..size {
+        let f = Centred::from_list(plane_fit::whole_at(frames, CENTRED, from + k));
+        let v = values_of(decomposition_at(ds, from + k + 1), f.count);
+        put_four(values, 4 * k, v);
+    }
+}
+
+// The guesses of a batch's k-th frame.
+fn four_at(guesses: &[u64; 32], k: usize) -> [u64; 4]
+    requires { ⌜ k < BATCH ⌝ }
+{
+    [
+        guesses[4 * k],
+        guesses[4 * k + 1],
+        guesses[4 * k + 2],
+        guesses[4 * k + 3],
+    ]
+}
+
+// Guesses of the roots of the first `many` values, two at a time. Nothing is said of them: a root is right whatever its guess.
+fn fill_guesses(values: &[f64; 32], many: usize, guesses: &mut [u64; 32])
+    requires { ⌜ (many ≤ FOURS) × (length (now guesses) ≡ FOURS) ⌝ }
+    ensures { λ _. ⌜ length (now (guesses .exit)) ≡ FOURS ⌝ }
+{
+    for k in 0..many {
+        guesses[k] = square_root::guess::of(values[k]);
+    }
+}
+
+// The roots of a batch of frames from frame `from` on, by their guesses.
+fn put_roots(
+    frames: &[f64],
+    ds: &[u64],
+    from: usize,
+    size: usize,
+    guesses: &[u64; 32],
+    roots: &mut [f64; 80],
+)
     requires { ⌜ (size ≤ BATCH) × (length (now roots) ≡ ROOTS) × (CENTRED * (from + size) ≤ length (now frames)) × ((from + size + 1) * DECOMPOSITION ≤ length (now ds)) ⌝ }
     ensures { λ _. ⌜ Rooted (now (frames .entry)) (now (ds .entry)) from size (now (roots .exit)) ⌝ }
 {
     for k in 0..size {
         let f = Centred::from_list(plane_fit::whole_at(frames, CENTRED, from + k));
-        let root = Root::of(decomposition_at(ds, from + k + 1), f.count);
-        put_root(roots, k, root);
+        let g = four_at(guesses, k);
+        put_root(
+            roots,
+            k,
+            Root::of(decomposition_at(ds, from + k + 1), f.count, g),
+        );
     }
+}
+
+// The same, number after number: number e of the batch's k-th frame stands at e * BATCH + k.
+fn fill_roots(frames: &[f64], ds: &[u64], from: usize, size: usize, roots: &mut [f64; 80])
+    requires { ⌜ (size ≤ BATCH) × (length (now roots) ≡ ROOTS) × (CENTRED * (from + size) ≤ length (now frames)) × ((from + size + 1) * DECOMPOSITION ≤ length (now ds)) ⌝ }
+    ensures { λ _. ⌜ Rooted (now (frames .entry)) (now (ds .entry)) from size (now (roots .exit)) ⌝ }
+{
+    let mut values = [0.0; 32];
+    let mut guesses: [u64; 32] = [0; 32];
+    fill_values(frames, ds, from, size, &mut values);
+    fill_guesses(&values, size * 4, &mut guesses);
+    put_roots(frames, ds, from, size, &guesses, roots);
 }
 
 // The root of the k-th frame of a batch.
@@ -319,6 +382,27 @@ fn write_frames(
     }
 }
 
+// Row k of a root, without a guess.
+fn root_row(d: &[u64], k: usize) -> [f64; 3]
+    requires { ⌜ (length (now d) ≡ DECOMPOSITION) × (k < 3) ⌝ }
+    ensures { λ r. ⌜ r ≡ rootRow (now (d .entry)) k ⌝ }
+{
+    let s = scale(decomposition::value(d, k), 0);
+    linear::scaled3(decomposition::vector(d, k), s)
+}
+
+// The four rows of a set that no action touches: of a lone root, which the loop over frames need not share its code with.
+fn fixed_rows(d: &[u64], count: f64, n: [f64; 3], along: f64, info: f64) -> [f64; 4]
+    requires { ⌜ length (now d) ≡ DECOMPOSITION ⌝ }
+    ensures { λ r. ⌜ r ≡ rowsOf (rootOf (now (d .entry)) count) n along info ⌝ }
+{
+    let x = linear::dot3(root_row(d, 0), n);
+    let y = linear::dot3(root_row(d, 1), n);
+    let z = linear::dot3(root_row(d, 2), n);
+    let last = square_root::sqrt(count);
+    [x * info, y * info, z * info, last * along * info]
+}
+
 // The four residuals of the fixed set after so many frames, +0 where there is none.
 fn write_fixed(fixed: &[f64], ds: &[u64], count: usize, p: Fitted, residual: &mut [f64])
     requires { ⌜ FixedRoom (now fixed) (now ds) count (length (now residual)) ⌝ }
@@ -330,11 +414,11 @@ fn write_fixed(fixed: &[f64], ds: &[u64], count: usize, p: Fitted, residual: &mu
         return;
     }
     let f = Centred::from_list(fixed);
-    let root = Root::of(decomposition_at(ds, count + 1), f.count);
     let mean = f.mean;
     let n = p.normal;
     let along = frame_normal::along(n, p.offset, mean);
-    put_four(residual, at, root.rows(n, along, p.info));
+    let four = fixed_rows(decomposition_at(ds, count + 1), f.count, n, along, p.info);
+    put_four(residual, at, four);
 }
 
 // All residuals, and all blocks into a Jacobian that is +0 everywhere.

@@ -5,8 +5,8 @@ use Rattle.frame_rows.proofs.root_row.Tie as tie
 
 returns : tie.Need-returns
 returns c =
-    let s = c .before in
-    rw (c .scaled3 .ensures, s .scale .ensures, s .before .value .ensures, s .before .before .vector .ensures)
+    let v = c .before in
+    rw (c .scaled3 .ensures, v .vector .ensures, v .before .scale .ensures, v .before .before .value .ensures)
 
 pub root-row-spec : {M : Type 1} → statement M
-root-row-spec = tie.close (tie.spec (λ c κs. search needs) (λ c κs. search needs) (λ c κs. tt) (λ c κs. tt) returns)
+root-row-spec = tie.close (tie.spec (λ c κs. search needs) (λ c κs. tt) (λ c κs. search needs) (λ c κs. tt) returns)

@@ -5,7 +5,7 @@ use Rattle.frame_rows.proofs.scale.Tie as tie
 
 returns : tie.Need-returns
 unfolding scaleOf
-returns c = rw (c .sqrt .ensures, c .before .if1 .taken)
+returns c = rw (c .sqrt-by .ensures, c .before .if1 .taken)
 
 returns-2 : tie.Need-returns-2
 unfolding scaleOf
