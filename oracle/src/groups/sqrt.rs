@@ -1,14 +1,21 @@
-//! The square root, against `f64::sqrt`.
+//! The square root, against `f64::sqrt`: worked out alone, from its guess, and from a guess that is off in its last digits.
 //!
 //! Random patterns hardly ever come near a place where rounding is hard, so most cases are made to be hard.
 
 use crate::generator::Generator;
 use crate::patterns::{self, same, FRACTION, SIGN};
+use crate::probe;
 use crate::report::Report;
 
 /// Compares the library.
 pub fn run(generator: &mut Generator, count: u64, report: &mut Report) {
     compare(maghnelt::sqrt, generator, count, report);
+    let by_guess = |x| probe::sqrt_by(x, probe::guess(x));
+    compare(by_guess, generator, 2 * count, report);
+    // Of the multiple's leading bits nearly every one is 1 as often as 0.
+    let off = |x: f64| x.to_bits().wrapping_mul(0x9E37_79B9_7F4A_7C15) >> 61;
+    let by_near_guess = |x| probe::sqrt_by(x, probe::guess(x) ^ off(x));
+    compare(by_near_guess, generator, 3 * count, report);
 }
 
 fn compare(sqrt: impl Fn(f64) -> f64, generator: &mut Generator, count: u64, report: &mut Report) {
