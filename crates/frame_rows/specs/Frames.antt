@@ -4,23 +4,24 @@ use native.Mathlib.Nat.{add-zero, mul-assoc, mul-one, mul-le-mul-left, mul-le-mu
 use native.Mathlib.Omega.{arith}
 use mathlib.Core.Path.{_≡_, refl, ap, _∙_}
 use mathlib.Core.List.{List, [], _∷_}
-use lib.ListN.{length, replicate, length-take, length-drop}
+use lib.ListN.{length, replicate}
 use lib.Ieee.{Float}
 use Rattle.sums.specs.Sum.{zeroF, tab}
 use Rattle.derivative.specs.Derivative.{dAn, dAlong}
 use Rattle.sums.specs.Fill.{written, written-same, column-ends}
 use Rattle.lists.specs.Part.{_!_}
-use Rattle.decomposition.specs.Axes.{DECOMPOSITION}
 use Rattle.action.specs.Carried.{carried}
 use Rattle.point_moments.specs.Scatter.{centredOf}
 use Rattle.point_moments.specs.declared.scatter.Centred.{Centred}
 use Rattle.plane_fit.specs.Fit.{frameAt, actionAt, frameCount}
 use Rattle.frame_normal.specs.Normal.{normalIn, alongOf}
-use Rattle.frame_rows.specs.Rows.{setRow, decompositionAt, frameRow, fixedRow, blockCell}
-use Rattle.frame_rows.specs.Steps.{rootOf, rowsOf}
-use Rattle.frame_rows.specs.Batch.{rootAt, residualRows, columnRows, BatchRoom}
+use Rattle.frame_rows.specs.Rows.{setRow, frameRow, fixedRow, blockCell}
+use Rattle.frame_rows.specs.Steps.{rowsOf}
+use Rattle.frame_rows.specs.Batch.{residualRows, columnRows, BatchRoom}
 use Rattle.frame_rows.specs.Cells.{block-place}
-use Rattle.frame_rows.specs.declared.Root.{Root}
+use Rattle.frame_roots.specs.Roots.{rootOf, decompositionAt}
+use Rattle.frame_roots.specs.Batch.{rootAt}
+use Rattle.frame_roots.specs.declared.Root.{Root}
 use Rattle.frame_rows.specs.declared.Fitted.{Fitted}
 
 -- the four rows of a set
@@ -79,10 +80,6 @@ module _ (count : ℕ) (fixed : List Float) (ds : List ℕ) (n : List Float) (of
       row : (l : List Float) → (length l ≡ 0 → ⊥) → (k : ℕ) → setRow (decompositionAt ds (count + 1)) (centredOf l .count) n (alongOf n offset (centredOf l .mean)) info k ≡ fixedRow count l ds n offset info k
       row [] some k = absurd (some refl)
       row (x ∷ l) some k = refl
-
--- a decomposition that the list holds whole
-pub decomposition-whole : (ds : List ℕ) (k : ℕ) → k * DECOMPOSITION + DECOMPOSITION ≤ length ds → length (decompositionAt ds k) ≡ DECOMPOSITION
-decomposition-whole ds k h = simp (length-take, length-drop) (omega arith)
 
 -- the columns of a batch's blocks lie within the Jacobian
 module _ (frames actions : List Float) (from size width rows cells : ℕ) (room : BatchRoom frames actions from size width rows cells) (c : ℕ) (column : c < width) where

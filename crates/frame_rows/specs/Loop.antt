@@ -15,7 +15,8 @@ use Rattle.batches.specs.Beside.{besideOf, Beside}
 use Rattle.plane_fit.specs.Fit.{frameCount}
 use Rattle.frame_rows.specs.Rows.{frameRow, fixedRow, blockCell, residualOf, jacobianOf}
 use Rattle.frame_rows.specs.Steps.{putColumns, putBlocks, Room, FramesWritten}
-use Rattle.frame_rows.specs.Batch.{BATCH, rootIn, residualRows, columnRows, Rooted, rooted-is}
+use Rattle.frame_roots.specs.Batch.{BATCH, rootIn, Rooted, rooted-is}
+use Rattle.frame_rows.specs.Batch.{residualRows, columnRows}
 use Rattle.frame_rows.specs.Laws.{put-same, blocks-same}
 use Rattle.frame_rows.specs.Cells.{Partly, partly-none, partly-batch, partly-all}
 use Rattle.frame_rows.specs.Frames.{frame-four, block-four}

@@ -5,25 +5,16 @@ use Prim.Native.Nat.{ℕ, _+_, _*_, _/_, _%_}
 use mathlib.Core.Bool.{cond}
 use mathlib.Core.List.{List, [], _∷_, _++_}
 use lib.Dec.{ltb, eqb}
-use lib.ListN.{take, drop}
-use lib.Ieee.{Float, lt}
-use Rattle.sums.specs.Sum.{_⊗_, zeroF, tab, scaled, dot, grid}
+use lib.Ieee.{Float}
+use Rattle.sums.specs.Sum.{_⊗_, zeroF, tab, dot, grid}
 use Rattle.square_root.specs.Computed.{squareRoot}
-use Rattle.decomposition.specs.Axes.{DECOMPOSITION, numberAt, vectorOf}
 use Rattle.derivative.specs.Derivative.{dAn, dAlong}
 use Rattle.point_moments.specs.Scatter.{centredOf}
 use Rattle.plane_fit.specs.Fit.{frameAt, actionAt, frameCount, centre}
 use Rattle.frame_normal.specs.Normal.{normalIn, alongOf}
+use Rattle.frame_roots.specs.Roots.{rootRow, decompositionAt}
 
--- ---- the root of a set
-
--- "the square root of the eigenvalue, one below 0 or NaN taken as 0": +0, and +0 for -0 too
-unfoldable pub scaleOf : Float → Float
-scaleOf value = cond (lt zeroF value) (squareRoot value) zeroF
-
--- "row k as vector k times the square root of the eigenvalue": R(k,l) = V_k(l)·scale_k, by the index k of the decomposition and not sorted
-abbrev pub rootRow : List ℕ → ℕ → List Float
-rootRow d k = scaled 3 (vectorOf d k) (scaleOf (numberAt d k))
+-- ---- the rows of a set
 
 -- Row k of the four that a set of so many points has for a vector v and a distance s: (Σ_l R(k,l)·v_l)·info for k 0..2, and (sqrt(count)·s)·info.
 -- For residuals v and s are the normal in the frame and the distance of its mean; for a column of the Jacobian, their derivatives.
@@ -31,10 +22,6 @@ unfoldable pub setRow : List ℕ → Float → List Float → Float → Float �
 setRow d count v s info k = cond (ltb k 3) (dot 3 (rootRow d k) v ⊗ info) (squareRoot count ⊗ s ⊗ info)
 
 -- ---- the rows of the factor
-
--- decomposition k of the list
-abbrev pub decompositionAt : List ℕ → ℕ → List ℕ
-decompositionAt ds k = take DECOMPOSITION (drop (k * DECOMPOSITION) ds)
 
 -- residual 4f + k
 unfoldable pub frameRow : List Float → List Float → List ℕ → List Float → Float → Float → ℕ → ℕ → Float

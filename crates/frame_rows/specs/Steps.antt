@@ -1,4 +1,4 @@
--- What the functions have on the way: a set's root by its rows, and columns of four written at even steps. Definitions only.
+-- What the functions have on the way: the rows by a root, and columns of four written at even steps. Definitions only.
 use Prim.Native.Nat.{ℕ, zero, suc, _+_, _*_, _≤_}
 use mathlib.Core.Path.{_≡_}
 use lib.ListN.{length, drop}
@@ -7,19 +7,14 @@ use mathlib.Core.Logic.{_⊎_}
 use lib.Ieee.{Float}
 use Rattle.sums.specs.Sum.{_⊗_, tab, dot, grid}
 use Rattle.sums.specs.Fill.{written}
-use Rattle.square_root.specs.Computed.{squareRoot}
 use Rattle.derivative.specs.Derivative.{dAn, dAlong}
 use Rattle.derivative.specs.Action.{actionSize}
 use Rattle.decomposition.specs.Axes.{DECOMPOSITION}
 use Rattle.point_moments.specs.Scatter.{CENTRED}
 use Rattle.plane_fit.specs.Fit.{frameCount}
-use Rattle.frame_rows.specs.Rows.{rootRow, frameRow, jacobianOf}
-use Rattle.frame_rows.specs.declared.Root.{Root}
+use Rattle.frame_rows.specs.Rows.{frameRow, jacobianOf}
+use Rattle.frame_roots.specs.declared.Root.{Root}
 use Rattle.frame_rows.specs.declared.Fitted.{Fitted}
-
--- the three rows of R, and sqrt(count)
-abbrev pub rootOf : List ℕ → Float → Root
-rootOf d count = record { first = rootRow d 0; second = rootRow d 1; third = rootRow d 2; last = squareRoot count }
 
 -- the four rows for v and s
 abbrev pub rowsOf : Root → List Float → Float → Float → List Float

@@ -22,7 +22,8 @@ use Rattle.plane_fit.specs.declared.axis.Fit.{Fit}
 use Rattle.plane_fit.specs.declared.axis.Fit.the-variants.{Plane, NoPlane}
 use Rattle.point_moments.specs.Scatter.{CENTRED}
 use Rattle.derivative.specs.Action.{actionSize, mostDof}
-use Rattle.frame_rows.specs.Rows.{decompositionAt, residualOf, jacobianOf, rowCount}
+use Rattle.frame_roots.specs.Roots.{decompositionAt}
+use Rattle.frame_rows.specs.Rows.{residualOf, jacobianOf, rowCount}
 use Rattle.frame_rows.specs.Steps.{Room, FixedRoom}
 
 -- ---- why it is refused, by the lengths of what is handed in

@@ -116,7 +116,7 @@ fn write_fitted(
     let width = wanted(dof, jacobian.len());
     frame_rows::clear(jacobian);
     let mean = plane_fit::fit_mean(frames, fixed, actions);
-    match plane_fit::axis::smallest_axis(frame_rows::decomposition_at(decompositions, 0), mean) {
+    match plane_fit::axis::smallest_axis(frame_roots::decomposition_at(decompositions, 0), mean) {
         Fit::Plane(a, b, c, offset) => {
             frame_rows::write_all(
                 frames,

@@ -5,7 +5,8 @@ use native.Mathlib.Omega.{arith}
 use borrow.Author.Needs.{needs}
 use Rattle.batches.specs.Beside.{Beside, beside-none, beside-more}
 use Rattle.plane_fit.specs.Records.{record-length}
-use Rattle.frame_rows.specs.Batch.{BATCH, rootIn, columnRows}
+use Rattle.frame_roots.specs.Batch.{BATCH, rootIn}
+use Rattle.frame_rows.specs.Batch.{columnRows}
 use Rattle.frame_rows.proofs.fill_column.Statement.{statement}
 use Rattle.frame_rows.proofs.fill_column.Tie as tie
 

@@ -6,7 +6,8 @@ use borrow.Author.Needs.{needs}
 use Rattle.batches.specs.Beside.{Beside, beside-none, beside-more}
 use Rattle.point_moments.specs.Scatter.{centredOf}
 use Rattle.plane_fit.specs.Records.{record-length}
-use Rattle.frame_rows.specs.Batch.{BATCH, rootIn, residualRows, residual-rows}
+use Rattle.frame_roots.specs.Batch.{BATCH, rootIn}
+use Rattle.frame_rows.specs.Batch.{residualRows, residual-rows}
 use Rattle.frame_rows.proofs.fill_residuals.Statement.{statement}
 use Rattle.frame_rows.proofs.fill_residuals.Tie as tie
 

@@ -8,7 +8,7 @@ use Rattle.sums.specs.Fill.{length-written}
 use Rattle.lists.specs.Part.{_!_}
 use Rattle.batches.specs.Beside.{besideOf}
 use Rattle.frame_rows.specs.Steps.{putColumns}
-use Rattle.frame_rows.specs.Batch.{BATCH}
+use Rattle.frame_roots.specs.Batch.{BATCH}
 use Rattle.frame_rows.specs.Laws.{put-none, put-more}
 use Rattle.frame_rows.proofs.store_rows.Statement.{statement}
 use Rattle.frame_rows.proofs.store_rows.Tie as tie

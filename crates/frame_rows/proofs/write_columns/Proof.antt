@@ -8,7 +8,8 @@ use lib.ListN.{length}
 use lib.Ieee.{Float}
 use Rattle.lists.specs.Part.{_!_}
 use Rattle.frame_rows.specs.Steps.{putBlocks}
-use Rattle.frame_rows.specs.Batch.{FOURS, rootIn, columnRows}
+use Rattle.frame_roots.specs.Batch.{FOURS, rootIn}
+use Rattle.frame_rows.specs.Batch.{columnRows}
 use Rattle.frame_rows.specs.Laws.{put-same, length-put, blocks-none, blocks-more}
 use Rattle.frame_rows.specs.Frames.{column-fits, batch-starts, batch-narrow, batch-step}
 use Rattle.frame_rows.proofs.write_columns.Statement.{statement}

@@ -6,7 +6,8 @@ use native.Mathlib.Omega.{arith}
 use borrow.Author.Needs.{needs}
 use lib.ListN.{length}
 use Rattle.decomposition.specs.Axes.{DECOMPOSITION}
-use Rattle.frame_rows.specs.Frames.{fixed-none, fixed-some, decomposition-whole}
+use Rattle.frame_roots.specs.Roots.{decomposition-whole}
+use Rattle.frame_rows.specs.Frames.{fixed-none, fixed-some}
 use Rattle.frame_rows.proofs.write_fixed.Statement.{statement}
 use Rattle.frame_rows.proofs.write_fixed.Tie as tie
 

@@ -6,7 +6,7 @@ use borrow.Author.Needs.{needs}
 use lib.ListN.{length}
 use Rattle.lists.specs.Batch.{batch-fits}
 use Rattle.plane_fit.specs.Fit.{frameCount}
-use Rattle.frame_rows.specs.Batch.{BATCH, ROOTS, FOURS}
+use Rattle.frame_roots.specs.Batch.{BATCH, ROOTS, FOURS}
 use Rattle.frame_rows.specs.Loop.{Lined, lined-none, lined-more, lined-all}
 use Rattle.frame_rows.proofs.write_frames.Statement.{statement}
 use Rattle.frame_rows.proofs.write_frames.Tie as tie

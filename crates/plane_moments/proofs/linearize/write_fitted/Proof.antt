@@ -4,7 +4,7 @@ use native.Mathlib.Omega.{arith}
 use borrow.Author.Needs.{needs}
 use lib.ListN.{length, replicate, length-replicate}
 use Rattle.sums.specs.Sum.{zeroF}
-use Rattle.frame_rows.specs.Frames.{decomposition-whole}
+use Rattle.frame_roots.specs.Roots.{decomposition-whole}
 use Rattle.plane_moments.specs.Linearize.{accepted-call, plane-call, no-plane-call}
 use Rattle.plane_moments.proofs.linearize.write_fitted.Statement.{statement}
 use Rattle.plane_moments.proofs.linearize.write_fitted.Tie as tie

@@ -1,6 +1,6 @@
--- `frame_rows::Root::rows` meets its contract: three sums, and the count's row. Assumes nothing.
-use Rattle.frame_rows.proofs.Root.rows.Statement.{statement}
-use Rattle.frame_rows.proofs.Root.rows.Tie as tie
+-- `frame_rows::rows` meets its contract: three sums, and the count's row. Assumes nothing.
+use Rattle.frame_rows.proofs.rows.Statement.{statement}
+use Rattle.frame_rows.proofs.rows.Tie as tie
 
 returns : tie.Need-returns
 returns c = rw (c .before .dot33 .ensures, c .before .before .dot32 .ensures, c .before .before .before .dot3 .ensures)

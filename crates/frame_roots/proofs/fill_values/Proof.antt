@@ -1,4 +1,4 @@
--- `frame_rows::fill_values` meets its contract: each turn's four lie within the values. Assumes nothing.
+-- `frame_roots::fill_values` meets its contract: each turn's four lie within the values. Assumes nothing.
 use Prim.Native.Nat.{_+_, _*_, _≤_, _-_}
 use mathlib.Core.Path.{_≡_, ap, _∙_}
 use native.Mathlib.Omega.{arith}
@@ -6,10 +6,10 @@ use borrow.Author.Needs.{needs}
 use lib.ListN.{length}
 use Rattle.sums.specs.Fill.{length-written}
 use Rattle.plane_fit.specs.Records.{record-length}
-use Rattle.frame_rows.specs.Batch.{FOURS}
-use Rattle.frame_rows.specs.Frames.{decomposition-whole}
-use Rattle.frame_rows.proofs.fill_values.Statement.{statement}
-use Rattle.frame_rows.proofs.fill_values.Tie as tie
+use Rattle.frame_roots.specs.Batch.{FOURS}
+use Rattle.frame_roots.specs.Roots.{decomposition-whole}
+use Rattle.frame_roots.proofs.fill_values.Statement.{statement}
+use Rattle.frame_roots.proofs.fill_values.Tie as tie
 
 abbrev Inv-loop : tie.InvT-loop
 Inv-loop frames ds from size values₀ k₀ values k = (k ≤ size) × (length values ≡ FOURS)

@@ -1,10 +1,10 @@
--- `frame_rows::decomposition_at` meets its contract: the part is within the list. Assumes nothing.
+-- `frame_roots::decomposition_at` meets its contract: the part is within the list. Assumes nothing.
 use mathlib.Core.Path.{_≡_}
 use Prim.Native.Nat.{ℕ, _+_, _-_, _*_}
 use native.Mathlib.Omega.{arith}
 use borrow.Author.Needs.{needs}
-use Rattle.frame_rows.proofs.decomposition_at.Statement.{statement}
-use Rattle.frame_rows.proofs.decomposition_at.Tie as tie
+use Rattle.frame_roots.proofs.decomposition_at.Statement.{statement}
+use Rattle.frame_roots.proofs.decomposition_at.Tie as tie
 
 cancel : (a b : ℕ) → a + b - a ≡ b
 cancel a b = omega arith

@@ -1,7 +1,7 @@
--- `frame_rows::scale` meets its contract: above 0, or not. Assumes nothing.
-use Rattle.frame_rows.specs.Rows.{scaleOf}
-use Rattle.frame_rows.proofs.scale.Statement.{statement}
-use Rattle.frame_rows.proofs.scale.Tie as tie
+-- `frame_roots::scale` meets its contract: above 0, or not. Assumes nothing.
+use Rattle.frame_roots.specs.Roots.{scaleOf}
+use Rattle.frame_roots.proofs.scale.Statement.{statement}
+use Rattle.frame_roots.proofs.scale.Tie as tie
 
 returns : tie.Need-returns
 unfolding scaleOf

@@ -1,7 +1,7 @@
--- `frame_rows::root_row` meets its contract: what the callees give, put together. Assumes nothing.
+-- `frame_roots::root_row` meets its contract: what the callees give, put together. Assumes nothing.
 use borrow.Author.Needs.{needs}
-use Rattle.frame_rows.proofs.root_row.Statement.{statement}
-use Rattle.frame_rows.proofs.root_row.Tie as tie
+use Rattle.frame_roots.proofs.root_row.Statement.{statement}
+use Rattle.frame_roots.proofs.root_row.Tie as tie
 
 returns : tie.Need-returns
 returns c =

@@ -1,11 +1,11 @@
--- `frame_rows::put_four` meets its contract: after k turns the first k numbers are written. Assumes nothing.
+-- `frame_roots::put_four` meets its contract: after k turns the first k numbers are written. Assumes nothing.
 use Prim.Native.Nat.{_-_}
 use mathlib.Core.Path.{refl}
 use borrow.Author.Needs.{needs}
 use Rattle.lists.specs.Part.{_!_}
 use Rattle.sums.specs.Fill.{Writing, writing-none, writing-more, writing-all}
-use Rattle.frame_rows.proofs.put_four.Statement.{statement}
-use Rattle.frame_rows.proofs.put_four.Tie as tie
+use Rattle.frame_roots.proofs.put_four.Statement.{statement}
+use Rattle.frame_roots.proofs.put_four.Tie as tie
 
 abbrev Inv-loop : tie.InvT-loop
 Inv-loop out₀ at v k₀ out k = Writing out₀ at 4 (λ i. v ! i) out k

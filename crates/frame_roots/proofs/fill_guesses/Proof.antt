@@ -1,12 +1,12 @@
--- `frame_rows::fill_guesses` meets its contract: each turn stays within the arrays. Assumes nothing.
+-- `frame_roots::fill_guesses` meets its contract: each turn stays within the arrays. Assumes nothing.
 use Prim.Native.Nat.{_≤_, _-_}
 use mathlib.Core.Path.{_≡_, _∙_}
 use native.Mathlib.Omega.{arith}
 use borrow.Author.Needs.{needs}
 use lib.ListN.{length, length-set}
-use Rattle.frame_rows.specs.Batch.{FOURS}
-use Rattle.frame_rows.proofs.fill_guesses.Statement.{statement}
-use Rattle.frame_rows.proofs.fill_guesses.Tie as tie
+use Rattle.frame_roots.specs.Batch.{FOURS}
+use Rattle.frame_roots.proofs.fill_guesses.Statement.{statement}
+use Rattle.frame_roots.proofs.fill_guesses.Tie as tie
 
 abbrev Inv-loop : tie.InvT-loop
 Inv-loop values many guesses₀ k₀ guesses k = (k ≤ many) × (length guesses ≡ FOURS)

@@ -1,7 +1,7 @@
--- `frame_rows::Root::of` meets its contract: the roots, and a row for each eigenvalue. Assumes nothing.
+-- `frame_roots::Root::of` meets its contract: the roots, and a row for each eigenvalue. Assumes nothing.
 use borrow.Author.Needs.{needs}
-use Rattle.frame_rows.proofs.Root.of.Statement.{statement}
-use Rattle.frame_rows.proofs.Root.of.Tie as tie
+use Rattle.frame_roots.proofs.Root.of.Statement.{statement}
+use Rattle.frame_roots.proofs.Root.of.Tie as tie
 
 returns : tie.Need-returns
 returns c =

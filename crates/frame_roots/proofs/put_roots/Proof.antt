@@ -1,14 +1,14 @@
--- `frame_rows::put_roots` meets its contract: after k turns the roots of the batch's first k frames are there. Assumes nothing.
+-- `frame_roots::put_roots` meets its contract: after k turns the roots of the batch's first k frames are there. Assumes nothing.
 use Prim.Native.Nat.{_+_, _≤_, _-_}
 use mathlib.Core.Path.{_≡_}
 use native.Mathlib.Omega.{arith}
 use borrow.Author.Needs.{needs}
 use Rattle.batches.specs.Beside.{beside-none}
 use Rattle.plane_fit.specs.Records.{record-length}
-use Rattle.frame_rows.specs.Batch.{rootAt, Rooted, rooted-more}
-use Rattle.frame_rows.specs.Frames.{decomposition-whole}
-use Rattle.frame_rows.proofs.put_roots.Statement.{statement}
-use Rattle.frame_rows.proofs.put_roots.Tie as tie
+use Rattle.frame_roots.specs.Batch.{rootAt, Rooted, rooted-more}
+use Rattle.frame_roots.specs.Roots.{decomposition-whole}
+use Rattle.frame_roots.proofs.put_roots.Statement.{statement}
+use Rattle.frame_roots.proofs.put_roots.Tie as tie
 
 abbrev Inv-loop : tie.InvT-loop
 Inv-loop frames ds from size guesses roots₀ k₀ roots k = (k ≤ size) × Rooted frames ds from k roots
