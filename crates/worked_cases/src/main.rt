@@ -1,4 +1,5 @@
-// Runs document 01's worked cases through the proved functions and writes what they give; the file `stdout` holds what the paper says.
+// Runs document 01's worked cases and a case of the frame factor in whole numbers through the proved functions and writes what they give; the file `stdout` holds
+// what was worked out on paper.
 use libc::STDOUT_FILENO;
 use point_moments::PointMoments;
 use point_moments::plane::MomentsPlane;
@@ -88,6 +89,159 @@ fn plane(label: &[u8], m: PointMoments) {
     }
 }
 
+// Building the factor of one frame of so many points and a fixed set: the reason to refuse, or 0 and the point total.
+fn build(label: &[u8], count: f64, fixed: f64) {
+    let frame = [
+        count,
+        0.0,
+        0.0,
+        0.0,
+        0.0,
+        0.0,
+        0.0,
+        0.0,
+        0.0,
+        0.0,
+        0.0,
+        0.0,
+        0.0,
+    ];
+    let set = [
+        fixed,
+        0.0,
+        0.0,
+        0.0,
+        0.0,
+        0.0,
+        0.0,
+        0.0,
+        0.0,
+        0.0,
+        0.0,
+        0.0,
+        0.0,
+    ];
+    let mut frames = [0.0; 13];
+    let mut sets = [0.0; 13];
+    let mut points = 0.0;
+    let mut dropped: u32 = 0;
+    let why = plane_moments::build::build(
+        6,
+        &frame,
+        &set,
+        1.0,
+        &mut frames,
+        &mut sets,
+        &mut points,
+        &mut dropped,
+    );
+    io::write_all(STDOUT_FILENO, label);
+    io::print_decimal(STDOUT_FILENO, why as u64);
+    list(b"", &[points]);
+}
+
+// The case in whole numbers: a frame of four points, the identity, one column, and decompositions with the unit axes, the fit's and the frame's.
+const SQUARE: [f64; 13] = [
+    4.0,
+    1.0,
+    1.0,
+    0.0,
+    4.0,
+    0.0,
+    0.0,
+    0.0,
+    4.0,
+    0.0,
+    0.0,
+    0.0,
+    0.0,
+];
+
+const UPRIGHT: [u64; 24] = [
+    0x0000_0000_0000_0000,
+    0x3ff0_0000_0000_0000,
+    0x4000_0000_0000_0000,
+    0x3ff0_0000_0000_0000,
+    0x0000_0000_0000_0000,
+    0x0000_0000_0000_0000,
+    0x0000_0000_0000_0000,
+    0x3ff0_0000_0000_0000,
+    0x0000_0000_0000_0000,
+    0x0000_0000_0000_0000,
+    0x0000_0000_0000_0000,
+    0x3ff0_0000_0000_0000,
+    0x4010_0000_0000_0000,
+    0x4010_0000_0000_0000,
+    0x0000_0000_0000_0000,
+    0x3ff0_0000_0000_0000,
+    0x0000_0000_0000_0000,
+    0x0000_0000_0000_0000,
+    0x0000_0000_0000_0000,
+    0x3ff0_0000_0000_0000,
+    0x0000_0000_0000_0000,
+    0x0000_0000_0000_0000,
+    0x0000_0000_0000_0000,
+    0x3ff0_0000_0000_0000,
+];
+
+// The identity, with (3, 0, 0) as the first column of `origin` and (1, 0, 0) as that of `axes` for x.
+fn moving_out() -> [f64; 120] {
+    let mut x = [0.0; 120];
+    x[0] = 1.0;
+    x[4] = 1.0;
+    x[8] = 1.0;
+    x[12] = 3.0;
+    x[39] = 1.0;
+    x
+}
+
+fn accumulate() {
+    let frames = SQUARE;
+    let fixed = [0.0; 0];
+    let actions = moving_out();
+    let ds = UPRIGHT;
+    let map: [u32; 1] = [0];
+    let mut hessian = [0.0; 1];
+    let mut gradient = [0.0; 1];
+    let mut cost = 0.0;
+    plane_moments::accumulate::accumulate(
+        1,
+        &frames,
+        &fixed,
+        0.5,
+        &actions,
+        &ds[0..12],
+        &map,
+        &mut hessian,
+        &mut gradient,
+        &mut cost,
+    );
+    list(b"cost", &[cost]);
+    list(b"hessian", &hessian);
+    list(b"gradient", &gradient);
+}
+
+fn linearize() {
+    let frames = SQUARE;
+    let fixed = [0.0; 0];
+    let actions = moving_out();
+    let ds = UPRIGHT;
+    let mut residual = [0.0; 8];
+    let mut jacobian = [0.0; 8];
+    plane_moments::linearize::linearize(
+        1,
+        &frames,
+        &fixed,
+        0.5,
+        &actions,
+        &ds,
+        &mut residual,
+        &mut jacobian,
+    );
+    list(b"residual", &residual);
+    list(b"jacobian", &jacobian);
+}
+
 fn main() {
     let point = [1.0, 2.0, 3.0];
     moments(b"a", &point[0..0]);
@@ -109,7 +263,13 @@ fn main() {
         0x0000_0000_0000_0000,
         0x3ff0_0000_0000_0000,
     );
+    build(b"h ", 5.0, -1.0);
+    build(b"i ", 5.0, -3.0);
+    build(b"j ", 2.0, 1.0);
+    build(b"j ", 2.0, 0.5);
     root(b"k ", 0x4010_0000_0000_0000);
     root(b"k ", 0x0000_0000_0000_0001);
     root(b"k ", 0x4000_0000_0000_0000);
+    accumulate();
+    linearize();
 }
