@@ -36,9 +36,11 @@ pub extern "C" fn probe_root_guess(n: u64) -> u64
     }
 }
 
-// A guess of a root's digits, of which nothing is said.
+// A guess of a root's digits.
 #[no_mangle]
-pub extern "C" fn probe_guess(x: f64) -> u64 {
+pub extern "C" fn probe_guess(x: f64) -> u64
+    ensures { λ r. ⌜ r < 2 ^ 55 ⌝ }
+{
     square_root::guess::of(x)
 }
 

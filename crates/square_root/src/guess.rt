@@ -1,5 +1,6 @@
 // A guess of a root's digits. No contract says how near it is: whatever it is, `sqrt_by` is right, and it is quick where the guess is the root.
 // There are products of 32 bits alone and no branch that counts, so that a loop over many numbers works out two of them at a time.
+ghost use Prim.Native.Nat.{_^_, _<_};
 
 // The product of the lower halves.
 fn times(a: u64, b: u64) -> u64 {
@@ -30,7 +31,9 @@ fn inverse_root(t: u64) -> u64 {
 
 // About the root of n * 2^54, for an n of 53 or 54 bits: first 32 digits, four less than worked out, so that they are not above the root's;
 // then the others from what these leave over, of which the lower 37 bits are all that is not 0.
-fn digits(n: u64) -> u64 {
+fn digits(n: u64) -> u64
+    ensures { λ r. ⌜ r < 2 ^ 55 ⌝ }
+{
     let t = n >> 22;
     let y = inverse_root(t);
     let s = ((times(t, y) >> 31) + 0xffff_fffc) % 0x1_0000_0000;
@@ -40,7 +43,9 @@ fn digits(n: u64) -> u64 {
 }
 
 // About the 54 digits of the root of x; anything where x has none.
-pub fn of(x: f64) -> u64 {
+pub fn of(x: f64) -> u64
+    ensures { λ r. ⌜ r < 2 ^ 55 ⌝ }
+{
     if x != x {
         return 0;
     }
