@@ -1,6 +1,6 @@
 -- What the callees give of one set is what the definitions say, and where its block lies in the Jacobian. Assumes nothing.
 use Prim.Native.Nat.{ℕ, zero, suc, _+_, _*_, _<_, _≤_}
-use native.Mathlib.Nat.{add-zero, mul-assoc, mul-one, mul-le-mul-left, mul-le-mul-right, suc-mul, not-suc-le-zero, le-of-suc-le-suc}
+use native.Mathlib.Nat.{add-zero, add-mul, mul-assoc, mul-one, mul-le-mul-left, mul-le-mul-right, suc-mul, not-suc-le-zero, le-of-suc-le-suc}
 use native.Mathlib.Omega.{arith}
 use mathlib.Core.Path.{_≡_, refl, ap, _∙_}
 use mathlib.Core.List.{List, [], _∷_}
@@ -80,6 +80,20 @@ module _ (count : ℕ) (fixed : List Float) (ds : List ℕ) (n : List Float) (of
       row : (l : List Float) → (length l ≡ 0 → ⊥) → (k : ℕ) → setRow (decompositionAt ds (count + 1)) (centredOf l .count) n (alongOf n offset (centredOf l .mean)) info k ≡ fixedRow count l ds n offset info k
       row [] some k = absurd (some refl)
       row (x ∷ l) some k = refl
+
+-- all columns of a batch lie within the Jacobian, and so their places are numbers of the machine
+module _ (frames actions : List Float) (from size width rows cells : ℕ) (room : BatchRoom frames actions from size width rows cells) where
+  pub batch-ends : from * width * rows + size * width * rows ≤ cells
+  batch-ends = rw (room .cells-whole, room .rows-whole) (omega (arith, add-mul from size width, add-mul (from * width) (size * width) ((frameCount frames + 1) * 4), mul-le-mul-right ((frameCount frames + 1) * 4) (mul-le-mul-right width (room .within))))
+
+  one : 1 ≤ rows
+  one = omega (arith, room .rows-whole)
+
+  pub first-narrow : from * width ≤ from * width * rows
+  first-narrow = rw (mul-one (from * width)) at (mul-le-mul-left (from * width) one)
+
+  pub size-narrow : size * width ≤ size * width * rows
+  size-narrow = rw (mul-one (size * width)) at (mul-le-mul-left (size * width) one)
 
 -- the columns of a batch's blocks lie within the Jacobian
 module _ (frames actions : List Float) (from size width rows cells : ℕ) (room : BatchRoom frames actions from size width rows cells) (c : ℕ) (column : c < width) where

@@ -14,7 +14,7 @@ use Rattle.lists.specs.Part.{_!_}
 use Rattle.batches.specs.Beside.{besideOf, Beside}
 use Rattle.plane_fit.specs.Fit.{frameCount}
 use Rattle.frame_rows.specs.Rows.{frameRow, fixedRow, blockCell, residualOf, jacobianOf}
-use Rattle.frame_rows.specs.Steps.{putColumns, putBlocks, Room, FramesWritten}
+use Rattle.frame_rows.specs.Steps.{putColumns, putBlocks, cleared, Room, FramesWritten}
 use Rattle.frame_roots.specs.Batch.{BATCH, rootIn, Rooted, rooted-is}
 use Rattle.frame_rows.specs.Batch.{residualRows, columnRows}
 use Rattle.frame_rows.specs.Laws.{put-same, blocks-same}
@@ -42,20 +42,20 @@ module _ (frames actions : List Float) (ds : List ℕ) (p : Fitted) where
   module _ (width : ℕ) (residual jacobian : List Float) where
     pub record Lined (residual′ jacobian′ : List Float) (k : ℕ) : Type 0 where
       pub rows : Columns 4 (frameCount frames + 1) rowOf residual residual′ k
-      pub cells : Partly frames actions ds (p .normal) (p .info) (frameCount frames) width (λ g d. k ≤ g) jacobian′
+      pub cells : Partly frames actions ds (p .normal) (p .info) (frameCount frames) width k (λ g d. k ≤ g) jacobian′
 
     module _ (room : Room frames actions ds (length residual) (length jacobian) width) where
-      pub lined-none : jacobian ≡ replicate (length jacobian) zeroF → Lined residual jacobian 0
-      lined-none clear = record {
+      pub lined-none : Lined residual jacobian 0
+      lined-none = record {
         rows = columns-none _ _ _ _;
-        cells = partly-none frames actions ds (p .normal) (p .info) (frameCount frames) width jacobian (clear ∙ ap (λ m. replicate m zeroF) (room .jacobian-whole));
+        cells = partly-none frames actions ds (p .normal) (p .info) (frameCount frames) width jacobian (room .jacobian-whole);
       }
 
       module _ (residual′ jacobian′ : List Float) (from : ℕ) (sofar : Lined residual′ jacobian′ from) where
         pub lined-more : (residual″ jacobian″ : List Float) (size : ℕ) (roots cells : List Float) → from + size ≤ frameCount frames → Rooted frames ds from size roots
             → Beside BATCH 4 (λ k. residualRows frames actions p (rootIn roots k) (from + k)) size cells
             → residual″ ≡ putColumns residual′ (from * 4) 4 (λ k r. besideOf BATCH 4 cells k ! r) size
-            → jacobian″ ≡ putBlocks jacobian′ from width (length residual) size (λ c k r. columnRows frames actions p c (rootIn roots k) (from + k) ! r) width
+            → jacobian″ ≡ putBlocks (cleared jacobian′ from width (length residual) size) from width (length residual) size (λ c k r. columnRows frames actions p c (rootIn roots k) (from + k) ! r) width
             → Lined residual″ jacobian″ (from + size)
         lined-more residual″ jacobian″ size roots cells h rooted held hr hj =
             let row : (k : ℕ) → k < size → (r : ℕ) → r < 4 → besideOf BATCH 4 cells k ! r ≡ rowOf r (from + k)
@@ -64,7 +64,7 @@ module _ (frames actions : List Float) (ds : List ℕ) (p : Fitted) where
             = λ c k l r b. block-four frames actions ds p (from + k) _ (rooted-is frames ds from rooted k l) c r b in
             record {
               rows = rw (hr, put-same residual′ (from * 4) 4 _ (λ k r. rowOf r (from + k)) size row) (columns-batch (frameCount frames + 1) rowOf residual residual′ from size (room .residual-whole) (omega arith) (sofar .rows));
-              cells = rw (hj, blocks-same jacobian′ from width (length residual) size _ (λ c k r. cellOf (from + k) c r) width block, room .residual-whole) (partly-batch frames actions ds (p .normal) (p .info) (frameCount frames) width from size h jacobian′ (sofar .cells));
+              cells = rw (hj, blocks-same (cleared jacobian′ from width (length residual) size) from width (length residual) size _ (λ c k r. cellOf (from + k) c r) width block, room .residual-whole) (partly-batch frames actions ds (p .normal) (p .info) (frameCount frames) width from size h jacobian′ (sofar .cells));
             }
 
         pub lined-all : from ≡ frameCount frames → FramesWritten frames actions ds p width residual residual′ jacobian′

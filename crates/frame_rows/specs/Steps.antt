@@ -5,7 +5,7 @@ use lib.ListN.{length, drop}
 use mathlib.Core.List.{List, [], _∷_, _++_}
 use mathlib.Core.Logic.{_⊎_}
 use lib.Ieee.{Float}
-use Rattle.sums.specs.Sum.{_⊗_, tab, dot, grid}
+use Rattle.sums.specs.Sum.{_⊗_, zeroF, tab, dot, grid}
 use Rattle.sums.specs.Fill.{written}
 use Rattle.derivative.specs.Derivative.{dAn, dAlong}
 use Rattle.derivative.specs.Action.{actionSize}
@@ -34,6 +34,10 @@ unfoldable pub putBlocks : List Float → ℕ → ℕ → ℕ → ℕ → (ℕ �
 putBlocks out from width rows size f zero = out
 putBlocks out from width rows size f (suc c) =
     putColumns (putBlocks out from width rows size f c) ((from * width + c) * rows + from * 4) (width * rows + 4) (f c) size
+
+-- +0 in the columns of so many frames from `from` on, which lie side by side
+abbrev pub cleared : List Float → ℕ → ℕ → ℕ → ℕ → List Float
+cleared out from width rows size = written out (from * width * rows) (size * width * rows) (λ k. zeroF)
 
 -- what the work on all frames asks of the lists: an action and a decomposition for each, and outputs of the right lengths, with so many columns a frame
 pub record Room (frames actions : List Float) (ds : List ℕ) (residuals cells width : ℕ) : Type 0 where

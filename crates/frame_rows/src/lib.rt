@@ -13,7 +13,7 @@ ghost use Rattle.plane_fit.specs.Fit.{frameCount};
 ghost use Rattle.frame_roots.specs.Roots.{rootOf};
 ghost use Rattle.frame_roots.specs.Batch.{BATCH, FOURS, rootIn};
 ghost use Rattle.frame_rows.specs.Rows.{fixedRow, residualOf, jacobianOf};
-ghost use Rattle.frame_rows.specs.Steps.{rowsOf, columnOf, putColumns, putBlocks, Room, FixedRoom, FramesWritten};
+ghost use Rattle.frame_rows.specs.Steps.{rowsOf, columnOf, putColumns, putBlocks, cleared, Room, FixedRoom, FramesWritten};
 ghost use Rattle.frame_rows.specs.Batch.{residualRows, columnRows, BatchRoom};
 use derivative::ACTION;
 use frame_roots::BATCH;
@@ -39,6 +39,16 @@ pub struct Fitted {
     pub normal: [f64; 3],
     pub offset: f64,
     pub info: f64,
+}
+
+// +0 in so many cells from a place on.
+fn clear_part(out: &mut [f64], at: usize, many: usize)
+    requires { ⌜ at + many ≤ length (now out) ⌝ }
+    ensures { λ _. ⌜ now (out .exit) ≡ written (now (out .entry)) at many (λ k. zeroF) ⌝ }
+{
+    for k in 0..many {
+        out[at + k] = 0.0;
+    }
 }
 
 // +0 everywhere.
@@ -146,7 +156,7 @@ fn store_rows(out: &mut [f64], at: usize, stride: usize, size: usize, cells: &[f
     }
 }
 
-// The columns of a batch's blocks.
+// The columns of a batch, +0 but for their blocks, which are stored while the columns are still near.
 fn write_columns(
     frames: &[f64],
     actions: &[f64],
@@ -159,9 +169,10 @@ fn write_columns(
     jacobian: &mut [f64],
 )
     requires { ⌜ BatchRoom (now frames) (now actions) from size width rows (length (now jacobian)) ⌝ }
-    ensures { λ _. ⌜ now (jacobian .exit) ≡ putBlocks (now (jacobian .entry)) from width rows size (λ c k r. columnRows (now (frames .entry)) (now (actions .entry)) p c (rootIn (now (roots .entry)) k) (from + k) ! r) width ⌝ }
+    ensures { λ _. ⌜ now (jacobian .exit) ≡ putBlocks (cleared (now (jacobian .entry)) from width rows size) from width rows size (λ c k r. columnRows (now (frames .entry)) (now (actions .entry)) p c (rootIn (now (roots .entry)) k) (from + k) ! r) width ⌝ }
 {
     let mut cells = [0.0; 32];
+    clear_part(jacobian, from * width * rows, size * width * rows);
     for c in 0..width {
         fill_column(frames, actions, from, size, roots, p, c, &mut cells);
         let at = (from * width + c) * rows + from * 4;
@@ -169,7 +180,7 @@ fn write_columns(
     }
 }
 
-// The residuals of all frames, and their blocks into a Jacobian that is +0 everywhere.
+// The residuals of all frames, and the Jacobian.
 fn write_frames(
     frames: &[f64],
     actions: &[f64],
@@ -179,7 +190,7 @@ fn write_frames(
     residual: &mut [f64],
     jacobian: &mut [f64],
 )
-    requires { ⌜ (now jacobian ≡ replicate (length (now jacobian)) zeroF) × Room (now frames) (now actions) (now ds) (length (now residual)) (length (now jacobian)) width ⌝ }
+    requires { ⌜ Room (now frames) (now actions) (now ds) (length (now residual)) (length (now jacobian)) width ⌝ }
     ensures { λ _. ⌜ FramesWritten (now (frames .entry)) (now (actions .entry)) (now (ds .entry)) p width (now (residual .entry)) (now (residual .exit)) (now (jacobian .exit)) ⌝ }
 {
     let count = frames.len() / CENTRED;
@@ -243,7 +254,7 @@ fn write_fixed(fixed: &[f64], ds: &[u64], count: usize, p: Fitted, residual: &mu
     frame_roots::put_four(residual, at, four);
 }
 
-// All residuals, and all blocks into a Jacobian that is +0 everywhere.
+// All residuals, and the Jacobian.
 pub fn write_all(
     frames: &[f64],
     fixed: &[f64],
@@ -256,7 +267,7 @@ pub fn write_all(
     residual: &mut [f64],
     jacobian: &mut [f64],
 )
-    requires { ⌜ (now jacobian ≡ replicate (length (now jacobian)) zeroF) × Room (now frames) (now actions) (now ds) (length (now residual)) (length (now jacobian)) width × FixedRoom (now fixed) (now ds) (frameCount (now frames)) (length (now residual)) ⌝ }
+    requires { ⌜ Room (now frames) (now actions) (now ds) (length (now residual)) (length (now jacobian)) width × FixedRoom (now fixed) (now ds) (frameCount (now frames)) (length (now residual)) ⌝ }
     ensures { λ _. ⌜ (now (residual .exit) ≡ residualOf (now (frames .entry)) (now (fixed .entry)) (now (actions .entry)) (now (ds .entry)) n offset info) × (now (jacobian .exit) ≡ jacobianOf (now (frames .entry)) (now (actions .entry)) (now (ds .entry)) n info width) ⌝ }
 {
     let p = Fitted {

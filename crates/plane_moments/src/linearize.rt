@@ -114,7 +114,6 @@ fn write_fitted(
     ensures { λ _. ⌜ Linearizes dof (now (frames .entry)) (now (fixed .entry)) sigma (now (actions .entry)) (now (decompositions .entry)) (now (residual .entry)) (now (jacobian .entry)) 0 (now (residual .exit)) (now (jacobian .exit)) ⌝ }
 {
     let width = wanted(dof, jacobian.len());
-    frame_rows::clear(jacobian);
     let mean = plane_fit::fit_mean(frames, fixed, actions);
     match plane_fit::axis::smallest_axis(frame_roots::decomposition_at(decompositions, 0), mean) {
         Fit::Plane(a, b, c, offset) => {
@@ -133,6 +132,7 @@ fn write_fitted(
         }
         Fit::NoPlane => {
             frame_rows::clear(residual);
+            frame_rows::clear(jacobian);
         }
     }
 }

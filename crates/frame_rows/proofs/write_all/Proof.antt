@@ -11,7 +11,7 @@ returns c =
     let s = w .before .before .before .before .before .before .before .before .before in
     let a = s .args in
     let f = w .write-frames .ensures in
-    (rows-all (a .frames .now) (a .fixed .now) (a .actions .now) (a .ds .now) (a .n) (a .offset) (a .info) (a .residual .now) _ _ (s .pre .1 .residual-whole) (f .residual-is) (x .write-fixed .ensures), f .jacobian-is)
+    (rows-all (a .frames .now) (a .fixed .now) (a .actions .now) (a .ds .now) (a .n) (a .offset) (a .info) (a .residual .now) _ _ (s .pre .0 .residual-whole) (f .residual-is) (x .write-fixed .ensures), f .jacobian-is)
 
 pub write-all-spec : {M : Type 1} → statement M
 write-all-spec =

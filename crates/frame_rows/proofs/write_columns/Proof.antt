@@ -1,4 +1,4 @@
--- `frame_rows::write_columns` meets its contract: after c turns the first c columns of the batch's blocks are put. Assumes nothing.
+-- `frame_rows::write_columns` meets its contract: the batch's columns are cleared, and after c turns the first c columns of its blocks are put. Assumes nothing.
 use Prim.Native.Nat.{_≤_, _-_, _+_, _*_}
 use mathlib.Core.Path.{_≡_, refl, ap, _∙_}
 use mathlib.Core.List.{List}
@@ -6,12 +6,13 @@ use native.Mathlib.Omega.{arith}
 use borrow.Author.Needs.{needs}
 use lib.ListN.{length}
 use lib.Ieee.{Float}
+use Rattle.sums.specs.Fill.{length-written}
 use Rattle.lists.specs.Part.{_!_}
 use Rattle.frame_rows.specs.Steps.{putBlocks}
 use Rattle.frame_roots.specs.Batch.{FOURS, rootIn}
 use Rattle.frame_rows.specs.Batch.{columnRows}
 use Rattle.frame_rows.specs.Laws.{put-same, length-put, blocks-none, blocks-more}
-use Rattle.frame_rows.specs.Frames.{column-fits, batch-starts, batch-narrow, batch-step}
+use Rattle.frame_rows.specs.Frames.{batch-ends, first-narrow, size-narrow, column-fits, batch-starts, batch-narrow, batch-step}
 use Rattle.frame_rows.proofs.write_columns.Statement.{statement}
 use Rattle.frame_rows.proofs.write_columns.Tie as tie
 
@@ -22,45 +23,50 @@ Inv-loop frames actions from size roots p width rows jacobian₀ cells₀ c₀ j
 abbrev μ-loop : tie.MeasureT-loop
 μ-loop frames actions from size roots p width rows jacobian₀ cells₀ c₀ jacobian cells c = width - c
 
+-- the room of a turn, and the Jacobian's length in it
+abbrev start : (t : tie.In-loop Inv-loop μ-loop) → tie.Start Inv-loop μ-loop
+start t = t .before .before .before .before .before .before .before .before .before
+
+kept : (t : tie.In-loop Inv-loop μ-loop) → length (t .before .loop .jacobian) ≡ length (start t .args .jacobian .now)
+kept t =
+    let made = t .before .before .before .before in
+    t .before .loop .inv .2 ∙ ap length (made .clear-part .ensures) ∙ length-written (start t .args .jacobian .now) _ _ _ (batch-ends _ _ _ _ _ _ _ (start t .pre))
+
 fill-column-requires : tie.Need-fill-column-requires Inv-loop μ-loop
 fill-column-requires c κs =
     let t = c .before in
     let l = t .before .loop in
-    let room = t .before .before .before .before .before .pre in
+    let room = start t .pre in
     (omega (arith, t .loop-test .taken, room .narrow), room .few, l .inv .1, omega (arith, room .within), omega (arith, room .within, room .actions-whole))
 
 -- where a turn's column lies
 abbrev Placed : (t : tie.In-loop Inv-loop μ-loop) → Type 0
 Placed t =
-    let a = t .before .before .before .before .before .args in
+    let a = start t .args in
     let col = a .from * a .width + t .before .loop .c in
     (col * a .rows + a .rows ≤ length (a .jacobian .now)) × (col ≤ col * a .rows) × (a .width * a .rows ≤ length (a .jacobian .now)) × (a .from * 4 + 4 ≤ a .rows)
 
 placed : (t : tie.In-loop Inv-loop μ-loop) → Placed t
 placed t =
-    let s = t .before .before .before .before .before in
-    let a = s .args in
+    let room = start t .pre in
     let l = t .before .loop in (
-      batch-starts _ _ _ _ _ _ _ (s .pre) (l .c) (t .loop-test .taken),
-      batch-narrow _ _ _ _ _ _ _ (s .pre) (l .c) (t .loop-test .taken),
-      batch-step _ _ _ _ _ _ _ (s .pre) (l .c) (t .loop-test .taken),
-      omega (arith, s .pre .rows-whole, s .pre .within, s .pre .some),
+      batch-starts _ _ _ _ _ _ _ room (l .c) (t .loop-test .taken),
+      batch-narrow _ _ _ _ _ _ _ room (l .c) (t .loop-test .taken),
+      batch-step _ _ _ _ _ _ _ room (l .c) (t .loop-test .taken),
+      omega (arith, room .rows-whole, room .within, room .some),
     )
 
 store-rows-requires : tie.Need-store-rows-requires Inv-loop μ-loop
 store-rows-requires c κs =
     let t = c .before .before .before .before in
-    let s = t .before .before .before .before .before in
-    let l = t .before .loop in
-    (s .pre .few, λ k h. rw (l .inv .2) (column-fits _ _ _ _ _ _ _ (s .pre) (l .c) (t .loop-test .taken) k h))
+    (start t .pre .few, λ k h. rw (kept t) (column-fits _ _ _ _ _ _ _ (start t .pre) (t .before .loop .c) (t .loop-test .taken) k h))
 
 loop-again : tie.Need-loop-again Inv-loop μ-loop
 loop-again c =
     let p = c .before .before in
     let filled = p .before .before .before in
     let t = filled .before .before in
-    let s = t .before .before .before .before .before in
-    let a = s .args in
+    let a = start t .args in
     let l = t .before .loop in
     let held = filled .fill-column .ensures in
     let at = (a .from * a .width + l .c) * a .rows + a .from * 4 in
@@ -68,16 +74,24 @@ loop-again c =
     let w = p .store-rows .ensures ∙ put-same (l .jacobian) at step _ (λ k r. columnRows (a .frames .now) (a .actions .now) (a .p) (l .c) (rootIn (a .roots .now) k) (a .from + k) ! r) (a .size) (λ k h r b. ap (λ (v : List Float). v ! r) (held .each k h)) in (
       omega (arith, t .loop-test .taken),
       held .long,
-      ap length w ∙ length-put (l .jacobian) at step _ (a .size) (λ k h. rw (l .inv .2) (column-fits _ _ _ _ _ _ _ (s .pre) (l .c) (t .loop-test .taken) k h)) ∙ l .inv .2,
-      blocks-more (a .jacobian .now) (l .jacobian) _ (a .from) (a .width) (a .rows) (a .size) _ (l .c) (l .inv .3) w,
+      ap length w ∙ length-put (l .jacobian) at step _ (a .size) (λ k h. rw (kept t) (column-fits _ _ _ _ _ _ _ (start t .pre) (l .c) (t .loop-test .taken) k h)) ∙ l .inv .2,
+      blocks-more _ (l .jacobian) _ (a .from) (a .width) (a .rows) (a .size) _ (l .c) (l .inv .3) w,
     )
 
 returns : tie.Need-returns Inv-loop μ-loop
 returns c =
     let l = c .before .loop in
-    let a = c .before .before .before .before .before .args in
+    let made = c .before .before .before .before in
+    let a = made .before .before .before .before .before .args in
     let e : l .c ≡ a .width = omega arith in
-    l .inv .3 ∙ ap (putBlocks (a .jacobian .now) (a .from) (a .width) (a .rows) (a .size) _) e
+    l .inv .3
+    ∙ ap (putBlocks _ (a .from) (a .width) (a .rows) (a .size) _) e
+    ∙ ap (λ (o : List Float). putBlocks o (a .from) (a .width) (a .rows) (a .size) (λ c k r. columnRows (a .frames .now) (a .actions .now) (a .p) c (rootIn (a .roots .now) k) (a .from + k) ! r) (a .width)) (made .clear-part .ensures)
+
+-- the places of the columns that are cleared fit
+module _ (c : tie.After-clear-part-arg Inv-loop μ-loop) where
+  ends : let a = c .before .before .before .before .args in a .from * a .width * a .rows + a .size * a .width * a .rows ≤ length (a .jacobian .now)
+  ends = batch-ends _ _ _ _ _ _ _ (c .before .before .before .before .pre)
 
 pub write-columns-spec : {M : Type 1} → statement M
 write-columns-spec =
@@ -85,6 +99,11 @@ write-columns-spec =
     (tie.spec
     Inv-loop
     μ-loop
+    (λ c. omega (arith, ends c, first-narrow _ _ _ _ _ _ _ (c .before .before .before .before .pre)))
+    (λ c. omega (arith, ends c))
+    (λ c. omega (arith, ends c, size-narrow _ _ _ _ _ _ _ (c .before .before .before .before .pre)))
+    (λ c. omega (arith, ends c))
+    (λ c κs. ends c)
     (λ c. (omega arith, refl, refl, blocks-none _ _ _ _ _ _))
     fill-column-requires
     (λ c. omega (arith, placed (c .before .before)))

@@ -20,7 +20,7 @@ abbrev μ-loop : tie.MeasureT-loop
     frameCount frames - from
 
 loop-holds : tie.Need-loop-holds Inv-loop μ-loop
-loop-holds c = let s = c .before .before .before .before .before in (omega arith, refl, refl, lined-none _ _ _ _ _ _ _ (s .pre .1) (s .pre .0))
+loop-holds c = let s = c .before .before .before .before .before in (omega arith, refl, refl, lined-none _ _ _ _ _ _ _ (s .pre))
 
 -- a turn's batch is within its bounds
 fits : (b : tie.After-batch-size Inv-loop μ-loop) → let size = b .batch-size .result in (0 < size) × (size ≤ BATCH) × (b .before .before .loop .from + size ≤ frameCount (b .before .before .before .before .before .before .before .before .args .frames .now))
@@ -30,33 +30,33 @@ fill-roots-requires : tie.Need-fill-roots-requires Inv-loop μ-loop
 fill-roots-requires c κs =
     let b = c .before in
     let t = b .before in
-    let room = t .before .before .before .before .before .before .before .pre .1 in
+    let room = t .before .before .before .before .before .before .before .pre in
     (fits b .1, t .before .loop .inv .1, omega (arith, fits b .2), omega (arith, fits b .2, room .ds-enough))
 
 fill-residuals-requires : tie.Need-fill-residuals-requires Inv-loop μ-loop
 fill-residuals-requires c κs =
     let b = c .before .before .before .before in
     let t = b .before in
-    let room = t .before .before .before .before .before .before .before .pre .1 in
+    let room = t .before .before .before .before .before .before .before .pre in
     (fits b .1, t .before .loop .inv .2, omega (arith, fits b .2), omega (arith, fits b .2, room .actions-whole))
 
 mul-store-rows : tie.Need-mul-store-rows Inv-loop μ-loop
 mul-store-rows c =
     let t = c .before .before .before .before .before .before .before in
-    omega (arith, t .loop-test .taken, t .before .before .before .before .before .before .before .pre .1 .residual-whole)
+    omega (arith, t .loop-test .taken, t .before .before .before .before .before .before .before .pre .residual-whole)
 
 store-rows-requires : tie.Need-store-rows-requires Inv-loop μ-loop
 store-rows-requires c κs =
     let b = c .before .before .before .before .before .before .before in
     let t = b .before in
-    let room = t .before .before .before .before .before .before .before .pre .1 in
+    let room = t .before .before .before .before .before .before .before .pre in
     (fits b .1, λ k h. omega (arith, h, fits b .2, room .residual-whole, t .before .loop .inv .3 .rows .size))
 
 write-columns-requires : tie.Need-write-columns-requires Inv-loop μ-loop
 write-columns-requires c κs =
     let b = c .before .before .before .before .before .before .before .before .before .before .before .before in
     let t = b .before in
-    let room = t .before .before .before .before .before .before .before .pre .1 in
+    let room = t .before .before .before .before .before .before .before .pre in
     record {
       some = fits b .0;
       few = fits b .1;
@@ -70,7 +70,7 @@ write-columns-requires c κs =
 add-from : tie.Need-add-from Inv-loop μ-loop
 add-from c =
     let b = c .before .before .before .before .before .before .before .before .before .before .before .before .before .before .before in
-    omega (arith, fits b .2, b .before .before .before .before .before .before .before .before .pre .1 .residual-whole)
+    omega (arith, fits b .2, b .before .before .before .before .before .before .before .before .pre .residual-whole)
 
 loop-less : tie.Need-loop-less Inv-loop μ-loop
 loop-less c =
@@ -92,7 +92,7 @@ loop-again c =
       fits b .2,
       roots .long,
       held .long,
-      lined-more (a .frames .now) (a .actions .now) (a .ds .now) (a .p) (a .width) (a .residual .now) (a .jacobian .now) (s .pre .1) (l .residual) (l .jacobian) (l .from) (l .inv .3) _ _ _ _ _ (fits b .2) roots held (stored .store-rows .ensures) (put .write-columns .ensures),
+      lined-more (a .frames .now) (a .actions .now) (a .ds .now) (a .p) (a .width) (a .residual .now) (a .jacobian .now) (s .pre) (l .residual) (l .jacobian) (l .from) (l .inv .3) _ _ _ _ _ (fits b .2) roots held (stored .store-rows .ensures) (put .write-columns .ensures),
     )
 
 returns : tie.Need-returns Inv-loop μ-loop
@@ -101,7 +101,7 @@ returns c =
     let s = c .before .before .before .before .before .before .before in
     let a = s .args in
     let e : l .from ≡ frameCount (a .frames .now) = omega (arith, l .inv .0, c .loop-test .left) in
-    lined-all (a .frames .now) (a .actions .now) (a .ds .now) (a .p) (a .width) (a .residual .now) (a .jacobian .now) (s .pre .1) (l .residual) (l .jacobian) (l .from) (l .inv .3) e
+    lined-all (a .frames .now) (a .actions .now) (a .ds .now) (a .p) (a .width) (a .residual .now) (a .jacobian .now) (s .pre) (l .residual) (l .jacobian) (l .from) (l .inv .3) e
 
 pub write-frames-spec : {M : Type 1} → statement M
 write-frames-spec =
@@ -120,5 +120,5 @@ write-frames-spec =
     loop-less
     loop-again
     (λ c. c .before .loop .inv .3 .rows .size)
-    (λ c. c .before .loop .inv .3 .cells .size ∙ sym (c .before .before .before .before .before .before .before .pre .1 .jacobian-whole))
+    (λ c. c .before .loop .inv .3 .cells .size ∙ sym (c .before .before .before .before .before .before .before .pre .jacobian-whole))
     returns)
