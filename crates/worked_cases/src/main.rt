@@ -89,38 +89,17 @@ fn plane(label: &[u8], m: PointMoments) {
     }
 }
 
+// The moments of so many points, all at the origin.
+fn points_at_the_origin(count: f64) -> [f64; 13] {
+    let mut m = [0.0; 13];
+    m[0] = count;
+    m
+}
+
 // Building the factor of one frame of so many points and a fixed set: the reason to refuse, or 0 and the point total.
 fn build(label: &[u8], count: f64, fixed: f64) {
-    let frame = [
-        count,
-        0.0,
-        0.0,
-        0.0,
-        0.0,
-        0.0,
-        0.0,
-        0.0,
-        0.0,
-        0.0,
-        0.0,
-        0.0,
-        0.0,
-    ];
-    let set = [
-        fixed,
-        0.0,
-        0.0,
-        0.0,
-        0.0,
-        0.0,
-        0.0,
-        0.0,
-        0.0,
-        0.0,
-        0.0,
-        0.0,
-        0.0,
-    ];
+    let frame = points_at_the_origin(count);
+    let set = points_at_the_origin(fixed);
     let mut frames = [0.0; 13];
     let mut sets = [0.0; 13];
     let mut points = 0.0;
