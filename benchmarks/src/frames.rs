@@ -1,7 +1,7 @@
 //! The calls on frames of a plane, against plain Rust on plain arrays of the same layout in which the compiler knows the width;
 //! and against the same with nine columns whatever the width, which is what the original works out.
 
-use crate::harness::measure;
+use crate::harness::{measure, measure_on};
 use crate::planes::Plane;
 use maghnelt::{slices, ACTION, CENTRED, DECOMPOSITION, MAX_ORDER};
 use oracle::generator::Generator;
@@ -88,21 +88,6 @@ fn measure_accumulate<const WIDTH: usize>(planes: &[Plane]) {
             );
         }
     }
-    let [mut by_library, mut by_rust, mut by_nine] = [(); 3].map(|()| zeros.clone());
-    library(&mut by_library);
-    rust::<WIDTH, WIDTH>(planes, &map, &mut by_rust);
-    rust::<WIDTH, 9>(planes, &map, &mut by_nine);
-    assert_eq!(by_library, by_rust);
-    assert_eq!(by_library, by_nine);
-    let case = format!("{}, dof {WIDTH}", of(planes));
-    measure(
-        "frames_accumulate",
-        &case,
-        planes.len(),
-        || library(&mut by_library),
-        || rust::<WIDTH, WIDTH>(planes, &map, &mut by_rust),
-    );
-    let mut by_slices = zeros;
     let of_slices = |normal: &mut Normal| {
         for plane in black_box(planes) {
             _ = plain::accumulate_slices::<WIDTH>(
@@ -118,20 +103,39 @@ fn measure_accumulate<const WIDTH: usize>(planes: &[Plane]) {
             );
         }
     };
-    measure(
+    let [mut by_library, mut by_rust, mut by_nine, mut by_slices] = [(); 4].map(|()| zeros.clone());
+    library(&mut by_library);
+    rust::<WIDTH, WIDTH>(planes, &map, &mut by_rust);
+    rust::<WIDTH, 9>(planes, &map, &mut by_nine);
+    of_slices(&mut by_slices);
+    assert_eq!(by_library, by_rust);
+    assert_eq!(by_library, by_nine);
+    assert_eq!(by_library, by_slices);
+    let case = format!("{}, dof {WIDTH}", of(planes));
+    measure_on(
+        "frames_accumulate",
+        &case,
+        planes.len(),
+        &mut by_library,
+        library,
+        |normal| rust::<WIDTH, WIDTH>(planes, &map, normal),
+    );
+    measure_on(
         "frames_accumulate",
         &format!("{case}, Rust with the same tests"),
         planes.len(),
-        || library(&mut by_library),
-        || of_slices(&mut by_slices),
+        &mut by_library,
+        library,
+        of_slices,
     );
     if WIDTH < 9 {
-        measure(
+        measure_on(
             "frames_accumulate",
             &format!("{case}, Rust of nine columns"),
             planes.len(),
-            || library(&mut by_library),
-            || rust::<WIDTH, 9>(planes, &map, &mut by_nine),
+            &mut by_library,
+            library,
+            |normal| rust::<WIDTH, 9>(planes, &map, normal),
         );
     }
 }
@@ -263,27 +267,30 @@ fn measure_linearize<const WIDTH: usize>(planes: &[Plane]) {
     assert_eq!(by_library, by_nine);
     assert_eq!(by_library, by_slices);
     let case = format!("{}, dof {WIDTH}", of(planes));
-    measure(
+    measure_on(
         "frames_linearize",
         &case,
         planes.len(),
-        || library(&mut by_library),
-        || rust::<WIDTH, WIDTH>(planes, &mut by_rust),
+        &mut by_library,
+        library,
+        |rows| rust::<WIDTH, WIDTH>(planes, rows),
     );
-    measure(
+    measure_on(
         "frames_linearize",
         &format!("{case}, Rust with the same root and tests"),
         planes.len(),
-        || library(&mut by_library),
-        || of_slices(&mut by_slices),
+        &mut by_library,
+        library,
+        of_slices,
     );
     if WIDTH < 9 {
-        measure(
+        measure_on(
             "frames_linearize",
             &format!("{case}, Rust of nine columns"),
             planes.len(),
-            || library(&mut by_library),
-            || rust::<WIDTH, 9>(planes, &mut by_nine),
+            &mut by_library,
+            library,
+            |rows| rust::<WIDTH, 9>(planes, rows),
         );
     }
 }

@@ -3,6 +3,7 @@
 //! The two take turns in short batches, so that whatever else slows the machine slows both alike, and the ratio is the
 //! median of the rounds' own ratios.
 
+use std::cell::RefCell;
 use std::hint::black_box;
 use std::time::{Duration, Instant};
 
@@ -57,6 +58,25 @@ pub fn measure(
         nanoseconds(median(rounds.iter().map(|round| round.0))),
         nanoseconds(median(rounds.iter().map(|round| round.1))),
         median(rounds.iter().map(|round| round.0 / round.1)),
+    );
+}
+
+/// The same of two that write to memory lent to them: both are lent the same, so that where its pages lie does not show.
+pub fn measure_on<Memory>(
+    function: &str,
+    case: &str,
+    calls: usize,
+    memory: &mut Memory,
+    mut library: impl FnMut(&mut Memory),
+    mut rust: impl FnMut(&mut Memory),
+) {
+    let memory = RefCell::new(memory);
+    measure(
+        function,
+        case,
+        calls,
+        || library(&mut memory.borrow_mut()),
+        || rust(&mut memory.borrow_mut()),
     );
 }
 

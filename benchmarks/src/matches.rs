@@ -1,6 +1,6 @@
 //! The calls on lists of matches, against plain Rust on plain arrays of the same layout in which the compiler knows the width.
 
-use crate::harness::measure;
+use crate::harness::{measure, measure_on};
 use maghnelt::{slices, ACTION, MATCH};
 use oracle::draws::{within, Pose, Wall};
 use oracle::generator::Generator;
@@ -98,12 +98,13 @@ fn measure_accumulate<const WIDTH: usize>(list: &List) {
     library(&mut by_library);
     rust(&mut by_rust);
     assert_eq!(by_library, by_rust);
-    measure(
+    measure_on(
         "matches_accumulate",
         &format!("{} matches, dof {WIDTH}", list.case),
         1,
-        || library(&mut by_library),
-        || rust(&mut by_rust),
+        &mut by_library,
+        library,
+        rust,
     );
 }
 
@@ -163,12 +164,13 @@ fn measure_linearize<const WIDTH: usize>(list: &List) {
     library(&mut by_library);
     rust(&mut by_rust);
     assert_eq!(by_library, by_rust);
-    measure(
+    measure_on(
         "matches_linearize",
         &format!("{} matches, dof {WIDTH}", list.case),
         1,
-        || library(&mut by_library),
-        || rust(&mut by_rust),
+        &mut by_library,
+        library,
+        rust,
     );
 }
 
