@@ -37,7 +37,7 @@ const GROUPS: &[Group] = &[
     },
     Group {
         name: "root_steps",
-        about: "correction steps of the square root, and the guess of a whole root: at most one off each way",
+        about: "correction steps of the square root: at most one each way",
         run: root_steps::run,
     },
     Group {

@@ -18,8 +18,7 @@ mod ffi {
         pub fn probe_order_of_three(a: u64, b: u64, c: u64) -> u32;
         pub fn probe_number(bits: u64) -> f64;
         pub fn probe_root_guess(n: u64) -> u64;
-        pub fn probe_guess(x: f64) -> u64;
-        pub fn probe_sqrt_by(x: f64, guess: u64) -> f64;
+        pub fn probe_sqrt_among(x: f64, other: f64, place: usize, many: usize) -> f64;
         pub fn probe_along_row_six(
             action: *const f64,
             action_length: usize,
@@ -65,18 +64,12 @@ pub fn root_guess(n: u64) -> u64 {
     unsafe { ffi::probe_root_guess(n) }
 }
 
-/// A guess of the 54 digits of the root of `x`.
+/// The square root of `x`, worked out at a place among the first `many` of 32 numbers, the others being `other`; `x` where
+/// that is no such place.
 #[inline]
-pub fn guess(x: f64) -> u64 {
-    // SAFETY: argument and answer are numbers by value, and the function is proved to end for every argument.
-    unsafe { ffi::probe_guess(x) }
-}
-
-/// The square root, from a guess of its digits.
-#[inline]
-pub fn sqrt_by(x: f64, guess: u64) -> f64 {
+pub fn sqrt_among(x: f64, other: f64, place: usize, many: usize) -> f64 {
     // SAFETY: arguments and answer are numbers by value, and the function is proved to end for every argument.
-    unsafe { ffi::probe_sqrt_by(x, guess) }
+    unsafe { ffi::probe_sqrt_among(x, other, place, many) }
 }
 
 /// The row of derivatives of the distance `normal·(A·point + b)`: nine numbers, of which the first six or all nine are

@@ -7,29 +7,25 @@ ghost use Rattle.lists.specs.Part.{_!_};
 ghost use Rattle.batches.specs.Beside.{putBeside};
 ghost use Rattle.decomposition.specs.Axes.{DECOMPOSITION};
 ghost use Rattle.point_moments.specs.Scatter.{CENTRED};
-ghost use Rattle.frame_roots.specs.Roots.{scaleOf, rootRow, rootOf, decompositionAt};
-ghost use Rattle.frame_roots.specs.Batch.{BATCH, ROOTS, FOURS, numbersOf, rootIn, Rooted};
+ghost use Rattle.frame_roots.specs.Roots.{atLeastZero, radicandsOf, rootRow, rootWith, decompositionAt};
+ghost use Rattle.frame_roots.specs.Batch.{BATCH, ROOTS, FOURS, numbersOf, rootIn, fourOf, Radicands, RootedWith, Rooted};
 use decomposition::DECOMPOSITION;
 use point_moments::scatter::CENTRED;
 use point_moments::scatter::Centred;
 
-// The square root of an eigenvalue, from a guess of it; one at or below 0 or a NaN has +0.
-fn scale(value: f64, guess: u64) -> f64
-    ensures { λ r. ⌜ r ≡ scaleOf value ⌝ }
+// An eigenvalue whose root is taken; one at or below 0 or a NaN is taken as +0.
+fn at_least_zero(value: f64) -> f64
+    ensures { λ r. ⌜ r ≡ atLeastZero value ⌝ }
 {
-    if value > 0.0 {
-        square_root::sqrt_by(value, guess)
-    } else {
-        0.0
-    }
+    if value > 0.0 { value } else { 0.0 }
 }
 
-// Row k of a root, without a guess.
+// Row k of a root, alone.
 pub fn root_row(d: &[u64], k: usize) -> [f64; 3]
     requires { ⌜ (length (now d) ≡ DECOMPOSITION) × (k < 3) ⌝ }
     ensures { λ r. ⌜ r ≡ rootRow (now (d .entry)) k ⌝ }
 {
-    let s = scale(decomposition::value(d, k), 0);
+    let s = square_root::sqrt(at_least_zero(decomposition::value(d, k)));
     linear::scaled3(decomposition::vector(d, k), s)
 }
 
@@ -42,23 +38,19 @@ pub struct Root {
 }
 
 impl Root {
-    // From guesses of the roots of its eigenvalues and of its count.
-    fn of(d: &[u64], count: f64, guesses: [u64; 4]) -> Root
+    // From the roots of its eigenvalues and of its count.
+    fn with(d: &[u64], roots: [f64; 4]) -> Root
         requires { ⌜ length (now d) ≡ DECOMPOSITION ⌝ }
-        ensures { λ r. ⌜ r ≡ rootOf (now (d .entry)) count ⌝ }
+        ensures { λ r. ⌜ r ≡ rootWith (now (d .entry)) roots ⌝ }
     {
-        let last = square_root::sqrt_by(count, guesses[3]);
-        let x = scale(decomposition::value(d, 0), guesses[0]);
-        let y = scale(decomposition::value(d, 1), guesses[1]);
-        let z = scale(decomposition::value(d, 2), guesses[2]);
-        let first = linear::scaled3(decomposition::vector(d, 0), x);
-        let second = linear::scaled3(decomposition::vector(d, 1), y);
-        let third = linear::scaled3(decomposition::vector(d, 2), z);
+        let first = linear::scaled3(decomposition::vector(d, 0), roots[0]);
+        let second = linear::scaled3(decomposition::vector(d, 1), roots[1]);
+        let third = linear::scaled3(decomposition::vector(d, 2), roots[2]);
         Root {
             first,
             second,
             third,
-            last,
+            last: roots[3],
         }
     }
 }
@@ -106,83 +98,62 @@ fn put_root(roots: &mut [f64; 80], k: usize, root: Root)
     roots[9 * BATCH + k] = root.last;
 }
 
-// What roots are taken of: the eigenvalues of a set, and its count.
-fn values_of(d: &[u64], count: f64) -> [f64; 4]
+// What the roots of a set are taken of: its eigenvalues, and its count.
+fn radicands(d: &[u64], count: f64) -> [f64; 4]
     requires { ⌜ length (now d) ≡ DECOMPOSITION ⌝ }
+    ensures { λ r. ⌜ r ≡ radicandsOf (now (d .entry)) count ⌝ }
 {
-    let x = decomposition::value(d, 0);
-    let y = decomposition::value(d, 1);
-    let z = decomposition::value(d, 2);
+    let x = at_least_zero(decomposition::value(d, 0));
+    let y = at_least_zero(decomposition::value(d, 1));
+    let z = at_least_zero(decomposition::value(d, 2));
     [x, y, z, count]
 }
 
-// These of a batch of frames, four a frame.
-fn fill_values(frames: &[f64], ds: &[u64], from: usize, size: usize, values: &mut [f64; 32])
-    requires { ⌜ (size ≤ BATCH) × (length (now values) ≡ FOURS) × (CENTRED * (from + size) ≤ length (now frames)) × ((from + size + 1) * DECOMPOSITION ≤ length (now ds)) ⌝ }
-    ensures { λ _. ⌜ length (now (values .exit)) ≡ FOURS ⌝ }
+// These of a batch of frames from frame `from` on, four a frame.
+fn fill_radicands(frames: &[f64], ds: &[u64], from: usize, size: usize, fours: &mut [f64; 32])
+    requires { ⌜ (size ≤ BATCH) × (length (now fours) ≡ FOURS) × (CENTRED * (from + size) ≤ length (now frames)) × ((from + size + 1) * DECOMPOSITION ≤ length (now ds)) ⌝ }
+    ensures { λ _. ⌜ Radicands (now (frames .entry)) (now (ds .entry)) from size (now (fours .exit)) ⌝ }
 {
     for k in 0..size {
         let f = Centred::from_list(plane_fit::whole_at(frames, CENTRED, from + k));
-        let v = values_of(decomposition_at(ds, from + k + 1), f.count);
-        put_four(values, 4 * k, v);
+        let v = radicands(decomposition_at(ds, from + k + 1), f.count);
+        put_four(fours, 4 * k, v);
     }
 }
 
-// The guesses of a batch's k-th frame.
-fn four_at(guesses: &[u64; 32], k: usize) -> [u64; 4]
+// The four numbers of a batch's k-th frame.
+fn four_at(fours: &[f64; 32], k: usize) -> [f64; 4]
     requires { ⌜ k < BATCH ⌝ }
+    ensures { λ r. ⌜ r ≡ fourOf (now (fours .entry)) k ⌝ }
 {
     [
-        guesses[4 * k],
-        guesses[4 * k + 1],
-        guesses[4 * k + 2],
-        guesses[4 * k + 3],
+        fours[4 * k],
+        fours[4 * k + 1],
+        fours[4 * k + 2],
+        fours[4 * k + 3],
     ]
 }
 
-// Guesses of the roots of the first `many` values, two at a time. Nothing is said of them: a root is right whatever its guess.
-fn fill_guesses(values: &[f64; 32], many: usize, guesses: &mut [u64; 32])
-    requires { ⌜ (many ≤ FOURS) × (length (now guesses) ≡ FOURS) ⌝ }
-    ensures { λ _. ⌜ length (now (guesses .exit)) ≡ FOURS ⌝ }
-{
-    for k in 0..many {
-        guesses[k] = square_root::guess::of(values[k]);
-    }
-}
-
-// The roots of a batch of frames from frame `from` on, by their guesses.
-fn put_roots(
-    frames: &[f64],
-    ds: &[u64],
-    from: usize,
-    size: usize,
-    guesses: &[u64; 32],
-    roots: &mut [f64; 80],
-)
-    requires { ⌜ (size ≤ BATCH) × (length (now roots) ≡ ROOTS) × (CENTRED * (from + size) ≤ length (now frames)) × ((from + size + 1) * DECOMPOSITION ≤ length (now ds)) ⌝ }
-    ensures { λ _. ⌜ Rooted (now (frames .entry)) (now (ds .entry)) from size (now (roots .exit)) ⌝ }
+// The roots of the scatters of a batch of frames from frame `from` on, with the roots of four numbers of each in hand.
+fn put_roots(ds: &[u64], from: usize, size: usize, fours: &[f64; 32], roots: &mut [f64; 80])
+    requires { ⌜ (size ≤ BATCH) × (length (now roots) ≡ ROOTS) × ((from + size + 1) * DECOMPOSITION ≤ length (now ds)) ⌝ }
+    ensures { λ _. ⌜ RootedWith (now (ds .entry)) from (now (fours .entry)) size (now (roots .exit)) ⌝ }
 {
     for k in 0..size {
-        let f = Centred::from_list(plane_fit::whole_at(frames, CENTRED, from + k));
-        let g = four_at(guesses, k);
-        put_root(
-            roots,
-            k,
-            Root::of(decomposition_at(ds, from + k + 1), f.count, g),
-        );
+        let v = four_at(fours, k);
+        put_root(roots, k, Root::with(decomposition_at(ds, from + k + 1), v));
     }
 }
 
-// The same, number after number: number e of the batch's k-th frame stands at e * BATCH + k.
+// The same with these worked out, number after number: number e of the batch's k-th frame stands at e * BATCH + k.
 pub fn fill_roots(frames: &[f64], ds: &[u64], from: usize, size: usize, roots: &mut [f64; 80])
     requires { ⌜ (size ≤ BATCH) × (length (now roots) ≡ ROOTS) × (CENTRED * (from + size) ≤ length (now frames)) × ((from + size + 1) * DECOMPOSITION ≤ length (now ds)) ⌝ }
     ensures { λ _. ⌜ Rooted (now (frames .entry)) (now (ds .entry)) from size (now (roots .exit)) ⌝ }
 {
-    let mut values = [0.0; 32];
-    let mut guesses: [u64; 32] = [0; 32];
-    fill_values(frames, ds, from, size, &mut values);
-    fill_guesses(&values, size * 4, &mut guesses);
-    put_roots(frames, ds, from, size, &guesses, roots);
+    let mut fours = [0.0; 32];
+    fill_radicands(frames, ds, from, size, &mut fours);
+    square_root::many::sqrt_all(&mut fours, size * 4);
+    put_roots(ds, from, size, &fours, roots);
 }
 
 // The root of the k-th frame of a batch.

@@ -2,10 +2,10 @@
 ghost use mathlib.Core.Path.{_≡_};
 ghost use Prim.Native.Nat.{_^_, _≤_, _<_};
 ghost use lib.Ieee.{binary64, ofBits};
-ghost use Rattle.square_root.specs.Computed.{squareRoot};
 ghost use Rattle.total_order.specs.Three.{orderOf};
 ghost use Rattle.probe.specs.Digits.{digitsOf};
 ghost use Rattle.probe.specs.Along.{Along};
+ghost use Rattle.probe.specs.Among.{rootAmong};
 
 // The order of three bit patterns, its places as decimal digits.
 #[no_mangle]
@@ -36,20 +36,21 @@ pub extern "C" fn probe_root_guess(n: u64) -> u64
     }
 }
 
-// A guess of a root's digits.
+// The square root of x, worked out at a place among the first `many` of 32 numbers, the others being `other`; x where that is no such place.
 #[no_mangle]
-pub extern "C" fn probe_guess(x: f64) -> u64
-    ensures { λ r. ⌜ r < 2 ^ 55 ⌝ }
+pub extern "C" fn probe_sqrt_among(x: f64, other: f64, place: usize, many: usize) -> f64
+    ensures { λ r. ⌜ r ≡ rootAmong x place many ⌝ }
 {
-    square_root::guess::of(x)
-}
-
-// The square root from any guess.
-#[no_mangle]
-pub extern "C" fn probe_sqrt_by(x: f64, guess: u64) -> f64
-    ensures { λ r. ⌜ r ≡ squareRoot x ⌝ }
-{
-    square_root::sqrt_by(x, guess)
+    if many > 32 {
+        return x;
+    }
+    if place >= many {
+        return x;
+    }
+    let mut xs = [other; 32];
+    xs[place] = x;
+    square_root::many::sqrt_all(&mut xs, many);
+    xs[place]
 }
 
 // The derivative row of a plane's distance at a point.

@@ -1,10 +1,11 @@
--- `root54`, in the numbers that it computes with: n of 53 or 54 digits, s the whole part of its root. Assumes nothing.
+-- `root54` and `many::by_hint`, in the numbers that they compute with: n of 53 or 54 digits, s the upper digits of its root. Assumes nothing.
 use mathlib.Core.Path.{_≡_, sym, ap, _∙_, subst}
 use Prim.Native.Nat.{ℕ, zero, suc, _+_, _-_, _*_, _/_, _%_, _^_, _≤_, _<_}
-use native.Mathlib.Nat.{mul-comm, le-trans, lt-of-lt-of-le, lt-of-not-le, le-of-suc-le-suc, not-le-of-lt, div-add-mod', mod-lt, div-lt-iff-lt-mul}
+use native.Mathlib.Nat.{mul-comm, mul-assoc, le-trans, lt-of-lt-of-le, lt-of-not-le, le-of-suc-le-suc, not-le-of-lt, div-add-mod', mod-lt, div-lt-iff-lt-mul}
 use native.Mathlib.Omega.{arith}
 use lib.Dec.{lit<}
 use Rattle.square_root.specs.Steps.{Root}
+use Rattle.square_root.proofs.Products.{mul-lt-pow}
 use Rattle.square_root.proofs.Karatsuba.{square, squares, between, as-it-is, one-less}
 
 module _ (n s : ℕ) (w : Root n s) (lo : 2 ^ 52 ≤ n) (hi : n < 2 ^ 54) where
@@ -79,11 +80,55 @@ module _ (n s : ℕ) (w : Root n s) (lo : 2 ^ 52 ≤ n) (hi : n < 2 ^ 54) where
       twice : (x : ℕ) → 2 ^ 26 ≤ x → 2 ^ 27 ≤ 2 * x
       twice x h = omega arith
 
--- `is_root`, in the numbers that it computes with: s and q are the halves of a guess g, a and u what they leave over
-pub guessed : (n g s q a u : ℕ) → s ≡ g / 2 ^ 27 → q ≡ g % 2 ^ 27 → s * s ≤ n → a ≡ n - s * s → a < 2 ^ 29 → 2 * s * q ≤ a * 2 ^ 27 % 2 ^ 64 → u ≡ a * 2 ^ 27 % 2 ^ 64 - 2 * s * q → u < 2 ^ 29
-    → q * q ≤ u * 2 ^ 27 % 2 ^ 64 → u * 2 ^ 27 % 2 ^ 64 - q * q ≤ 2 * g → Root (n * 2 ^ 54) g
-guessed n g s q a u es eq low ea small fits eu few reach most =
-    let halves : s * 2 ^ 27 + q ≡ g = omega arith in
-    let split : s * s + a ≡ n = omega arith in
-    let left : a * 2 ^ 27 ≡ q * (2 * s) + u = let c = mul-comm q (2 * s) in omega arith in
-    subst (λ (r : ℕ). Root (n * 2 ^ 54) r) halves (between s (2 ^ 27) q u a n split left (omega arith) (omega arith))
+-- `many::by_hint`, in the numbers that it computes with: s has the upper digits and q the lower ones; r, u and d are what is left over, and e is what d leaves of twice the root. Where the
+-- doubt is 0, all four are so small that no difference went below 0.
+no-doubt : (a b c d : ℕ) → a + b + c + d ≡ 0 → (a ≡ 0) × (b ≡ 0) × (c ≡ 0) × (d ≡ 0)
+no-doubt a b c d h = (omega arith, omega arith, omega arith, omega arith)
+
+upper-left : (ss r n : ℕ) → ss ≤ (2 ^ 32 - 1) * (2 ^ 32 - 1) → 2 ^ 52 ≤ n → n < 2 ^ 54 → r / 2 ^ 37 ≡ 0 → (r + ss) % 2 ^ 64 ≡ n * 2 ^ 10 % 2 ^ 64 → ss + r ≡ n * 2 ^ 10
+upper-left ss r n most lo hi few e = omega arith
+
+lower-left : (sq u r : ℕ) → sq < 2 ^ 60 → r / 2 ^ 37 ≡ 0 → u / 2 ^ 34 ≡ 0 → (u + sq) % 2 ^ 64 ≡ r * 2 ^ 21 % 2 ^ 64 → sq + u ≡ r * 2 ^ 21
+lower-left sq u r most few less e = omega arith
+
+all-left : (qq d u : ℕ) → qq < 2 ^ 56 → u / 2 ^ 34 ≡ 0 → d / 2 ^ 63 ≡ 0 → (d + qq) % 2 ^ 64 ≡ u * 2 ^ 23 % 2 ^ 64 → qq + d ≡ u * 2 ^ 23
+all-left qq d u most few less e = omega arith
+
+at-most : (d e g : ℕ) → d / 2 ^ 63 ≡ 0 → e / 2 ^ 63 ≡ 0 → (e + d) % 2 ^ 64 ≡ 2 * g → d ≤ 2 * g
+at-most d e g few less h = omega arith
+
+module _ (n s q r u d e : ℕ) (lo : 2 ^ 52 ≤ n) (hi : n < 2 ^ 54) (S : s < 2 ^ 32) (Q : q < 2 ^ 28) where
+  pub told : (r + s * s) % 2 ^ 64 ≡ n * 2 ^ 10 % 2 ^ 64 → (u + s * q) % 2 ^ 64 ≡ r * 2 ^ 21 % 2 ^ 64 → (d + q * q) % 2 ^ 64 ≡ u * 2 ^ 23 % 2 ^ 64 → (e + d) % 2 ^ 64 ≡ 2 * (s * 2 ^ 22 % 2 ^ 64 + q)
+      → r / 2 ^ 37 + u / 2 ^ 34 + d / 2 ^ 63 + e / 2 ^ 63 ≡ 0 → Root (n * 2 ^ 54) (s * 2 ^ 22 % 2 ^ 64 + q)
+  told er eu ed ee none =
+      let z = no-doubt (r / 2 ^ 37) (u / 2 ^ 34) (d / 2 ^ 63) (e / 2 ^ 63) none in
+      let split = upper-left (s * s) r n (squares (below s S)) lo hi (z .0) er in
+      let left = doubled (s * q) u r (lower-left (s * q) u r (mul-lt-pow 32 28 S Q) (z .0) (z .1) eu) in
+      let rest = all-left (q * q) d u (mul-lt-pow 28 28 Q Q) (z .1) (z .2) ed in
+      let most = at-most d e (s * 2 ^ 22 % 2 ^ 64 + q) (z .2) (z .3) ee in
+      let top : s * 2 ^ 22 % 2 ^ 64 ≡ s * 2 ^ 22 = whole s S in
+      subst (λ (t : ℕ). Root (n * 2 ^ 54) (t + q)) (sym top)
+      (subst (λ (m : ℕ). Root m (s * 2 ^ 22 + q)) (again n)
+      (between s (2 ^ 22) q (2 * u) r (n * 2 ^ 10) split (left ∙ ap (λ (k : ℕ). k + 2 * u) (sym (twice q s)))
+      (reach (q * q) d u rest) (within (q * q) d u (s * 2 ^ 22 + q) rest (subst (λ (t : ℕ). d ≤ 2 * (t + q)) top most))))
+    where
+      below : (s : ℕ) → s < 2 ^ 32 → s ≤ 2 ^ 32 - 1
+      below s h = omega arith
+
+      doubled : (sq u r : ℕ) → sq + u ≡ r * 2 ^ 21 → r * 2 ^ 22 ≡ 2 * sq + 2 * u
+      doubled sq u r h = omega arith
+
+      twice : (q s : ℕ) → q * (2 * s) ≡ 2 * (s * q)
+      twice q s = mul-comm q (2 * s) ∙ mul-assoc 2 s q
+
+      whole : (s : ℕ) → s < 2 ^ 32 → s * 2 ^ 22 % 2 ^ 64 ≡ s * 2 ^ 22
+      whole s h = omega arith
+
+      again : (n : ℕ) → n * 2 ^ 10 * (2 ^ 22 * 2 ^ 22) ≡ n * 2 ^ 54
+      again n = omega arith
+
+      reach : (qq d u : ℕ) → qq + d ≡ u * 2 ^ 23 → qq ≤ 2 * u * 2 ^ 22
+      reach qq d u h = omega arith
+
+      within : (qq d u g : ℕ) → qq + d ≡ u * 2 ^ 23 → d ≤ 2 * g → 2 * u * 2 ^ 22 ≤ qq + 2 * g
+      within qq d u g h k = omega arith

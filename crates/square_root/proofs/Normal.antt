@@ -39,11 +39,10 @@ pub normal-range : (b t : ℕ) → b < 0x7ff0_0000_0000_0000 → t < 2 ^ 52 → 
 normal-range b t h k = (omega arith, omega arith, omega arith, omega arith)
 
 module _ (b : ℕ) (norm : 2 ^ 52 ≤ b) where
-  pub normal-units : (bitAnd b (2 ^ 52 - 1) + 2 ^ 52) * 2 ^ (b / 2 ^ 52 + 1073) ≡ unitsOf b * 2 ^ 1074
+  pub normal-digits : (b % 2 ^ 52 + 2 ^ 52) * 2 ^ (b / 2 ^ 52 + 1073) ≡ unitsOf b * 2 ^ 1074
   unfolding unitsOf
-  normal-units =
-      ap (λ (t : ℕ). (t + 2 ^ 52) * 2 ^ (b / 2 ^ 52 + 1073)) (and-mask b 52)
-      ∙ ap (λ (t : ℕ). t * 2 ^ (b / 2 ^ 52 + 1073)) (add-comm (b % 2 ^ 52) (2 ^ 52))
+  normal-digits =
+      ap (λ (t : ℕ). t * 2 ^ (b / 2 ^ 52 + 1073)) (add-comm (b % 2 ^ 52) (2 ^ 52))
       ∙ ap (λ (e : ℕ). (2 ^ 52 + b % 2 ^ 52) * 2 ^ e) (lower b norm)
       ∙ ap (λ (p : ℕ). (2 ^ 52 + b % 2 ^ 52) * p) (pow-add 2 (b / 2 ^ 52 - 1) 1074)
       ∙ sym (mul-assoc (2 ^ 52 + b % 2 ^ 52) (2 ^ (b / 2 ^ 52 - 1)) (2 ^ 1074))
@@ -51,6 +50,9 @@ module _ (b : ℕ) (norm : 2 ^ 52 ≤ b) where
     where
       lower : (b : ℕ) → 2 ^ 52 ≤ b → b / 2 ^ 52 + 1073 ≡ b / 2 ^ 52 - 1 + 1074
       lower b h = omega arith
+
+  pub normal-units : (bitAnd b (2 ^ 52 - 1) + 2 ^ 52) * 2 ^ (b / 2 ^ 52 + 1073) ≡ unitsOf b * 2 ^ 1074
+  normal-units = ap (λ (t : ℕ). (t + 2 ^ 52) * 2 ^ (b / 2 ^ 52 + 1073)) (and-mask b 52) ∙ normal-digits
 
 -- ---- a pattern of a subnormal value
 module _ (b : ℕ) (some : 0 < b) (sub : b < 2 ^ 52) where

@@ -1,10 +1,11 @@
 // The square root of an f64, correctly rounded, worked out on integers.
-pub mod guess;
+pub mod many;
 
 ghost use mathlib.Core.Path.{_≡_};
 ghost use Prim.Native.Nat.{_+_, _-_, _*_, _%_, _^_, _≤_, _<_};
 ghost use Rattle.square_root.specs.Computed.{squareRoot};
-ghost use Rattle.square_root.specs.Steps.{Root, Surely, RootBits, unitsOf};
+ghost use Rattle.square_root.specs.Many.{patternDigits};
+ghost use Rattle.square_root.specs.Steps.{Root, RootBits, unitsOf};
 
 // c0 - c1 * t + c2 * t^2, for t of 32 places after the point and the others of 28, to 14 places.
 fn parabola(t: u64, c0: u64, c1: u64, c2: u64) -> u64
@@ -91,45 +92,6 @@ fn root54(n: u64) -> u64
     if (u << 27) < q * q { r - 1 } else { r }
 }
 
-// Whether g is the largest number with g * g <= n * 2^54. With s and q for its halves that is n * 2^54 - g * g from 0 to 2 * g, where what is
-// left over is worked out half by half; a no may be wrong, where a half leaves over more than a root's does.
-fn is_root(n: u64, g: u64) -> bool
-    requires { ⌜ g < 2 ^ 54 ⌝ }
-    ensures { λ r. ⌜ Surely (n * 2 ^ 54) g r ⌝ }
-{
-    let s = g >> 27;
-    let q = g % 0x800_0000;
-    if n < s * s {
-        return false;
-    }
-    let a = n - s * s;
-    if a >= 0x2000_0000 {
-        return false;
-    }
-    if (a << 27) < 2 * s * q {
-        return false;
-    }
-    let u = (a << 27) - 2 * s * q;
-    if u >= 0x2000_0000 {
-        return false;
-    }
-    if (u << 27) < q * q {
-        return false;
-    }
-    if (u << 27) - q * q > 2 * g {
-        return false;
-    }
-    true
-}
-
-// The same as root54, from a guess of it.
-fn root54_by(n: u64, g: u64) -> u64
-    requires { ⌜ (2 ^ 52 ≤ n) × (n < 2 ^ 54) × (g < 2 ^ 54) ⌝ }
-    ensures { λ r. ⌜ Root (n * 2 ^ 54) r ⌝ }
-{
-    if is_root(n, g) { g } else { root54(n) }
-}
-
 // The bits of the value nearest to the root of m * 2^l, counted in units of 2^-1074, where s is the root of m or 2 * m.
 fn pack(m: u64, l: u64, s: u64) -> u64
     requires { ⌜ (2 ^ 52 ≤ m) × (m < 2 ^ 53) × (1022 ≤ l) × (l < 3120) × Root (m * 2 ^ (l % 2) * 2 ^ 54) s ⌝ }
@@ -138,7 +100,19 @@ fn pack(m: u64, l: u64, s: u64) -> u64
     (((l >> 1) - 26) << 52) + ((s + 1) >> 1)
 }
 
-// The same, with the root worked out.
+// The same of the value whose bits are b, which is finite, above zero and not subnormal, where s is the root of its digits.
+fn normal_bits(b: u64, s: u64) -> u64
+    requires { ⌜ (2 ^ 52 ≤ b) × (b < 0x7ff0_0000_0000_0000) × Root (patternDigits b * 2 ^ 54) s ⌝ }
+    ensures { λ r. ⌜ RootBits (unitsOf b * 2 ^ 1074) r ⌝ }
+{
+    pack(
+        b % 0x10_0000_0000_0000 + 0x10_0000_0000_0000,
+        (b >> 52) + 1073,
+        s,
+    )
+}
+
+// The bits of the value nearest to the root of m * 2^l, with the root of m or 2 * m worked out.
 fn root_bits(m: u64, l: u64) -> u64
     requires { ⌜ (2 ^ 52 ≤ m) × (m < 2 ^ 53) × (1022 ≤ l) × (l < 3120) ⌝ }
     ensures { λ r. ⌜ RootBits (m * 2 ^ l) r ⌝ }
@@ -184,31 +158,4 @@ pub fn sqrt(x: f64) -> f64
             f64::from_bits(sqrt_bits(b))
         }
     }
-}
-
-// The bits of the root of the value whose bits are b, which is finite, above zero and not subnormal, from a guess of its digits.
-fn normal_bits_by(b: u64, guess: u64) -> u64
-    requires { ⌜ (2 ^ 52 ≤ b) × (b < 0x7ff0_0000_0000_0000) ⌝ }
-    ensures { λ r. ⌜ RootBits (unitsOf b * 2 ^ 1074) r ⌝ }
-{
-    let m = (b & 0xf_ffff_ffff_ffff) + 0x10_0000_0000_0000;
-    let l = (b >> 52) + 1073;
-    pack(m, l, root54_by(m << (l & 1), guess % 0x40_0000_0000_0000))
-}
-
-// The same as `sqrt`, from a guess of the root's digits: right whatever the guess, and quick where it is the root (`guess::of`).
-pub fn sqrt_by(x: f64, guess: u64) -> f64
-    ensures { λ r. ⌜ r ≡ squareRoot x ⌝ }
-{
-    if x != x {
-        return x;
-    }
-    let b = f64::to_bits(x);
-    if b < 0x10_0000_0000_0000 {
-        return sqrt(x);
-    }
-    if b >= 0x7ff0_0000_0000_0000 {
-        return sqrt(x);
-    }
-    f64::from_bits(normal_bits_by(b, guess))
 }

@@ -1,9 +1,7 @@
-//! How far the guess from which a square root is settled lies from the root: the number of correction steps. And how far the
-//! guess of a whole root does, which is taken where it is the root.
+//! How far the guess from which a square root is settled lies from the root: the number of correction steps.
 //!
 //! A guess depends on its operand's leading 32 bits and rises with the rest, as the root does. So for each leading part
 //! both ends of the rest bound every operand between them. With a count of 3 * 2^30 or more every leading part is taken.
-//! Of whole roots both ends are looked at, and nothing is said of what lies between.
 
 use crate::generator::Generator;
 use crate::probe;
@@ -19,7 +17,6 @@ const END: u64 = 1 << 32;
 /// Measures the library.
 pub fn run(_: &mut Generator, count: u64, report: &mut Report) {
     compare(probe::root_guess, count, report);
-    compare_whole(|n| probe::guess(n as f64), count, report);
 }
 
 /// The least and the most operand of each leading part, or of so many of them.
@@ -29,24 +26,6 @@ fn operands(count: u64) -> impl Iterator<Item = (u64, u64)> {
         let least = leading << REST;
         (least, least + ((1 << REST) - 1))
     })
-}
-
-/// The root of n * 2^54.
-fn whole_root(n: u64) -> u64 {
-    (u128::from(n) << 54).isqrt() as u64
-}
-
-/// A guess of a whole root is the root of n * 2^54 or next to it, for an even n, which an `f64` holds.
-fn compare_whole(guess: impl Fn(u64) -> u64, count: u64, report: &mut Report) {
-    for (least, most) in operands(count) {
-        for n in [least, most & !1] {
-            let root = whole_root(n);
-            let guess = guess(n);
-            report.check(guess.abs_diff(root) <= 1, || {
-                format!("root of {n:X} * 2^54: {root:X}, guess {guess:X}")
-            });
-        }
-    }
 }
 
 fn compare(guess: impl Fn(u64) -> u64, count: u64, report: &mut Report) {
@@ -69,23 +48,14 @@ mod tests {
         report.mismatches()
     }
 
-    fn whole_mismatches(guess: impl Fn(u64) -> u64) -> u64 {
-        let mut report = Report::new("root_steps");
-        compare_whole(guess, 1000, &mut report);
-        report.mismatches()
-    }
-
     #[test]
     fn the_root_itself_passes() {
         assert_eq!(mismatches(u64::isqrt), 0);
-        assert_eq!(whole_mismatches(whole_root), 0);
     }
 
     #[test]
     fn a_guess_that_is_two_off_is_found() {
         assert!(mismatches(|n| n.isqrt() + 2) > 0);
         assert!(mismatches(|n| n.isqrt() - 2) > 0);
-        assert!(whole_mismatches(|n| whole_root(n) + 2) > 0);
-        assert!(whole_mismatches(|n| whole_root(n) - 2) > 0);
     }
 }

@@ -1,4 +1,4 @@
-//! The square root, against `f64::sqrt`: worked out alone, from its guess, and from a guess that is off in its last digits.
+//! The square root, against `f64::sqrt`: worked out alone, and among others.
 //!
 //! Random patterns hardly ever come near a place where rounding is hard, so most cases are made to be hard.
 
@@ -10,12 +10,14 @@ use crate::report::Report;
 /// Compares the library.
 pub fn run(generator: &mut Generator, count: u64, report: &mut Report) {
     compare(maghnelt::sqrt, generator, count, report);
-    let by_guess = |x| probe::sqrt_by(x, probe::guess(x));
-    compare(by_guess, generator, 2 * count, report);
     // Of the multiple's leading bits nearly every one is 1 as often as 0.
-    let off = |x: f64| x.to_bits().wrapping_mul(0x9E37_79B9_7F4A_7C15) >> 61;
-    let by_near_guess = |x| probe::sqrt_by(x, probe::guess(x) ^ off(x));
-    compare(by_near_guess, generator, 3 * count, report);
+    let among = |x: f64| {
+        let drawn = x.to_bits().wrapping_mul(0x9E37_79B9_7F4A_7C15);
+        let many = 1 + (drawn >> 59) as usize;
+        let place = (drawn >> 54) as usize % many;
+        probe::sqrt_among(x, f64::from_bits(drawn), place, many)
+    };
+    compare(among, generator, 2 * count, report);
 }
 
 fn compare(sqrt: impl Fn(f64) -> f64, generator: &mut Generator, count: u64, report: &mut Report) {
