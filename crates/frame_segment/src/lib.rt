@@ -10,8 +10,9 @@ use point_moments::scatter::Centred;
 ghost use mathlib.Core.Path.{_≡_};
 ghost use Prim.Native.Nat.{_+_, _*_, _≤_};
 ghost use lib.ListN.{length};
-ghost use Rattle.terms.specs.Terms.{addAll, segment, block};
+ghost use Rattle.terms.specs.Terms.{addAll, segment};
 ghost use Rattle.plane_fit.specs.Fit.{frameAt, actionAt};
+ghost use Rattle.frame_segment.specs.Columns.{columns};
 ghost use Rattle.frame_segment.specs.Frame.{blockEntry, pulledEntry};
 ghost use Rattle.frame_segment.specs.Steps.{columnEntry, rowsEntry, rowsVector, Added, Held};
 
@@ -40,12 +41,14 @@ fn add_column(
     }
 }
 
-// The block is added column after column, at row and column `at` of a Hessian of order n.
-fn add_block(
+// So many columns of the block from column `first` on are added, one after the other, at row and column `at` of a Hessian of order n.
+fn add_columns(
     h: &mut [f64],
     n: usize,
     at: usize,
     width: usize,
+    first: usize,
+    many: usize,
     d0: [f64; 9],
     d1: [f64; 9],
     d2: [f64; 9],
@@ -56,11 +59,12 @@ fn add_block(
     count: f64,
     weight: f64,
 )
-    requires { ⌜ (width ≤ 9) × (at + width ≤ n) × (length (now h) ≡ n * n) ⌝ }
-    ensures { λ _. ⌜ now (h .exit) ≡ addAll (now (h .entry)) (block n at width (rowsEntry d0 d1 d2 p0 p1 p2 m count weight)) ⌝ }
+    requires { ⌜ (width ≤ 9) × (first + many ≤ width) × (at + width ≤ n) × (length (now h) ≡ n * n) ⌝ }
+    ensures { λ _. ⌜ now (h .exit) ≡ addAll (now (h .entry)) (columns n at width (rowsEntry d0 d1 d2 p0 p1 p2 m count weight) first many) ⌝ }
 {
-    for c in 0..width {
-        let base = (at + c) * n + at;
+    for c in 0..many {
+        let j = first + c;
+        let base = (at + j) * n + at;
         add_column(
             h,
             base,
@@ -69,10 +73,10 @@ fn add_block(
             p1,
             p2,
             m,
-            d0[c],
-            d1[c],
-            d2[c],
-            m[c],
+            d0[j],
+            d1[j],
+            d2[j],
+            m[j],
             count,
             weight,
         );
@@ -133,7 +137,23 @@ fn add_three(
     let p0 = derivative::combined_row(d0, d1, d2, [c[0], c[1], c[2]], 3);
     let p1 = derivative::combined_row(d0, d1, d2, [c[3], c[4], c[5]], 3);
     let p2 = derivative::combined_row(d0, d1, d2, [c[6], c[7], c[8]], 3);
-    add_block(h, n, at, 3, d0, d1, d2, p0, p1, p2, m, f.count, weight);
+    add_columns(
+        h,
+        n,
+        at,
+        3,
+        0,
+        3,
+        d0,
+        d1,
+        d2,
+        p0,
+        p1,
+        p2,
+        m,
+        f.count,
+        weight,
+    );
     add_vector(g, at, 3, d0, d1, d2, m, s, t, weight);
 }
 
@@ -166,7 +186,23 @@ fn add_six(
     let p0 = derivative::combined_row(d0, d1, d2, [c[0], c[1], c[2]], 6);
     let p1 = derivative::combined_row(d0, d1, d2, [c[3], c[4], c[5]], 6);
     let p2 = derivative::combined_row(d0, d1, d2, [c[6], c[7], c[8]], 6);
-    add_block(h, n, at, 6, d0, d1, d2, p0, p1, p2, m, f.count, weight);
+    add_columns(
+        h,
+        n,
+        at,
+        6,
+        0,
+        6,
+        d0,
+        d1,
+        d2,
+        p0,
+        p1,
+        p2,
+        m,
+        f.count,
+        weight,
+    );
     add_vector(g, at, 6, d0, d1, d2, m, s, t, weight);
 }
 
@@ -199,7 +235,41 @@ fn add_seven(
     let p0 = derivative::combined_row(d0, d1, d2, [c[0], c[1], c[2]], 7);
     let p1 = derivative::combined_row(d0, d1, d2, [c[3], c[4], c[5]], 7);
     let p2 = derivative::combined_row(d0, d1, d2, [c[6], c[7], c[8]], 7);
-    add_block(h, n, at, 7, d0, d1, d2, p0, p1, p2, m, f.count, weight);
+    // Of seven columns at once the compiler would make a loop, which is slower.
+    add_columns(
+        h,
+        n,
+        at,
+        7,
+        0,
+        3,
+        d0,
+        d1,
+        d2,
+        p0,
+        p1,
+        p2,
+        m,
+        f.count,
+        weight,
+    );
+    add_columns(
+        h,
+        n,
+        at,
+        7,
+        3,
+        4,
+        d0,
+        d1,
+        d2,
+        p0,
+        p1,
+        p2,
+        m,
+        f.count,
+        weight,
+    );
     add_vector(g, at, 7, d0, d1, d2, m, s, t, weight);
 }
 
@@ -232,7 +302,23 @@ fn add_nine(
     let p0 = derivative::combined_row(d0, d1, d2, [c[0], c[1], c[2]], 9);
     let p1 = derivative::combined_row(d0, d1, d2, [c[3], c[4], c[5]], 9);
     let p2 = derivative::combined_row(d0, d1, d2, [c[6], c[7], c[8]], 9);
-    add_block(h, n, at, 9, d0, d1, d2, p0, p1, p2, m, f.count, weight);
+    add_columns(
+        h,
+        n,
+        at,
+        9,
+        0,
+        9,
+        d0,
+        d1,
+        d2,
+        p0,
+        p1,
+        p2,
+        m,
+        f.count,
+        weight,
+    );
     add_vector(g, at, 9, d0, d1, d2, m, s, t, weight);
 }
 
@@ -266,7 +352,23 @@ fn add_other(
     let p0 = derivative::combined_row(d0, d1, d2, [c[0], c[1], c[2]], width);
     let p1 = derivative::combined_row(d0, d1, d2, [c[3], c[4], c[5]], width);
     let p2 = derivative::combined_row(d0, d1, d2, [c[6], c[7], c[8]], width);
-    add_block(h, n, at, width, d0, d1, d2, p0, p1, p2, m, f.count, weight);
+    add_columns(
+        h,
+        n,
+        at,
+        width,
+        0,
+        width,
+        d0,
+        d1,
+        d2,
+        p0,
+        p1,
+        p2,
+        m,
+        f.count,
+        weight,
+    );
     add_vector(g, at, width, d0, d1, d2, m, s, t, weight);
 }
 
