@@ -25,10 +25,30 @@ extern "C" {
 #define MAGHNELT_PLANE 4          /* normal (3), offset */
 
 /* The most that one call takes. */
+#define MAGHNELT_MAX_DOF 9        /* columns of an action's derivatives */
+#define MAGHNELT_MAX_POINTS 65536
 #define MAGHNELT_MAX_FRAMES 256   /* frames of one plane */
 #define MAGHNELT_MAX_WORDS 1024   /* words of a block map or of an index list */
 #define MAGHNELT_MAX_ORDER 1024   /* rows of a Hessian */
 #define MAGHNELT_MAX_MATCHES 65536
+
+/*
+ * Why a call is turned away. A call tests the reasons that its comment names, in that order, and answers the first that
+ * applies.
+ *
+ *  1  the dof is above MAGHNELT_MAX_DOF
+ *  2  the frame list or match list is empty
+ *  3  a slice other than the actions has not the length its counts call for, or a limit is passed
+ *  4  some frame's count is at or below 0
+ *  5  the frames' counts summed in order, plus the fixed count, are below 3
+ *  6  a moment of a frame or the fixed set, or a coordinate of a point, is not finite
+ *  7  sigma is not finite and positive
+ *  8  the actions are not MAGHNELT_ACTION numbers for each frame (one action, for a match list)
+ *  9  a word of a map is above MAGHNELT_UNMAPPED
+ * 10  a mapped frame's offset plus dof exceeds the order n of the Hessian
+ * 11  a plane's normal has a norm that is not finite or not above 1e-12
+ * 12  the point-to-plane variance is not finite and positive
+ */
 
 /*
  * A word of a block map says where a frame goes: below this one it is an offset, the row at which the frame's segment
@@ -53,7 +73,7 @@ int64_t maghnelt_total_order_key(uint64_t bits);
 
 /* ---- moments: MAGHNELT_MOMENTS numbers a record; thirteen zeros are the empty set. Each call can refuse by 3. ---- */
 
-/* The moments of a list of points, 3 numbers each, at most 65,536 points. What `moments` held before does not count. */
+/* The moments of a list of points, 3 numbers each, at most MAGHNELT_MAX_POINTS. What `moments` held before does not count. */
 uint32_t maghnelt_moments_from_points(const double *points, size_t points_length, double *moments,
                                       size_t moments_length);
 
@@ -140,7 +160,8 @@ uint32_t maghnelt_frames_fit(uint32_t dof, const double *frames, size_t frames_l
  * and adds the frames' normal equations to a Hessian of n by n and a gradient of n numbers, n being at most
  * MAGHNELT_MAX_ORDER: for each mapped frame, one after the other, dof rows and columns from its offset on. *cost is the
  * weighted sum of squared distances over all frames, mapped or not, and the fixed set. Without a plane (the two least
- * eigenvalues are not more than 1e-14 times the larger of 1 and the third apart) *cost is 0, and nothing else is written.
+ * eigenvalues are not more than 1e-14 * t apart, t being the absolute value of the third where that is above 1, and else 1)
+ * *cost is 0, and nothing else is written.
  * Hessian, gradient and map may all be empty. Refused by 1, 2, 3, 7, 8, 9 and 10.
  */
 uint32_t maghnelt_frames_accumulate(uint32_t dof, const double *frames, size_t frames_length, const double *fixed,
@@ -184,7 +205,7 @@ uint32_t maghnelt_matches_linearize(uint32_t dof, const double *matches, size_t 
 /* ---- one match below its chain: MAGHNELT_MATCH numbers, the plane being taken as it comes ---- */
 
 /*
- * The residual (normal . world + offset) / sigma of a match whose point a chain of a state and an extrinsic carries to
+ * The residual (1 / sigma) * (normal . world + offset) of a match whose point a chain of a state and an extrinsic carries to
  * world (3), and the row of its derivatives, dof by the state and then 6 by the extrinsic; an empty row is not wanted.
  * d_state has 3 numbers a column, d_extrinsic 18. Refused by 1, 2, 3, 6 and 7; 6 looks at the match's own point alone.
  */

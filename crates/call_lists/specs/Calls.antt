@@ -1,5 +1,5 @@
 -- One accumulating call as document 01 has it in "Many calls on one Hessian": what it answers, its segments, which cells it owns, and what it adds.
--- All of it comes from the call's own inputs and the two lengths; nothing here takes the content of a Hessian or a gradient. Assumes nothing.
+-- A call comes from its own inputs and the two lengths alone; the content of a Hessian and a gradient is only what it adds to. Assumes nothing.
 use Prim.Native.Nat.{ℕ, zero, suc, _+_, _≤_, _<_, _%_, _/_}
 use mathlib.Core.Path.{_≡_}
 use mathlib.Core.List.{List, []}

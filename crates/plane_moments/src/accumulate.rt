@@ -5,12 +5,10 @@ ghost use lib.ListN.{length};
 ghost use lib.Ieee.{Float};
 ghost use Rattle.call_lists.specs.Accumulated.{Accumulated};
 ghost use Rattle.plane_moments.specs.Accumulate.{FramesWork, badLengths, framesRefusal, framesCall, work};
+use decomposition::DECOMPOSITION;
 use derivative::MOST_DOF;
 use plane_fit::axis::Fit;
 use point_moments::scatter::CENTRED;
-
-// How many numbers a decomposition is.
-const DECOMPOSITION: usize = 12;
 
 // 3: the frames, the fixed set, the decomposition, and the target of so many cells and n rows with its map of so many words.
 fn bad_lengths(

@@ -1,6 +1,6 @@
 //! Frames of one plane: what each frame saw of it, and the affine map that carries the frame into the site.
 
-use crate::{slices, Refusal, ACTION, CENTRED};
+use crate::{slices, Refusal, ACTION, CENTRED, MAX_DOF};
 
 /// The places of a centred frame; no other code here knows them.
 const MEAN: usize = 1;
@@ -10,8 +10,7 @@ const SCATTER: usize = 4;
 const SHIFT: usize = 9;
 const ORIGIN: usize = 12;
 const AXES: usize = 39;
-/// The most columns that the derivatives of an action have, and how many numbers these are.
-const MAX_DOF: usize = 9;
+/// How many numbers the columns of a derivative are.
 const COLUMNS: usize = 3 * MAX_DOF;
 
 /// The points of a frame, or of a fixed set, centred on their mean: count, mean, and scatter times count.

@@ -69,7 +69,7 @@ pub use normal_equations::NormalEquations;
 pub use plane::{point_to_plane_sigma, Plane};
 pub use refusal::Refusal;
 pub use sizes::{
-    ACTION, CENTRED, DECOMPOSITION, MATCH, MAX_FRAMES, MAX_MATCHES, MAX_ORDER, MAX_POINTS,
+    ACTION, CENTRED, DECOMPOSITION, MATCH, MAX_DOF, MAX_FRAMES, MAX_MATCHES, MAX_ORDER, MAX_POINTS,
     MAX_WORDS, MOMENTS, PLANE,
 };
 pub use square_root::sqrt;

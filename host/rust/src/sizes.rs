@@ -13,6 +13,8 @@ pub const MATCH: usize = 8;
 /// The numbers of a plane: normal (3), offset.
 pub const PLANE: usize = 4;
 
+/// The most columns of an action's derivatives.
+pub const MAX_DOF: usize = 9;
 /// The most points that one call takes.
 pub const MAX_POINTS: usize = 65_536;
 /// The most frames of one plane.

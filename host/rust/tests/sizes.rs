@@ -25,6 +25,8 @@ fn sizes_are_those_of_the_header() {
             ("DECOMPOSITION", maghnelt::DECOMPOSITION),
             ("MATCH", maghnelt::MATCH),
             ("PLANE", maghnelt::PLANE),
+            ("MAX_DOF", maghnelt::MAX_DOF),
+            ("MAX_POINTS", maghnelt::MAX_POINTS),
             ("MAX_FRAMES", maghnelt::MAX_FRAMES),
             ("MAX_WORDS", maghnelt::MAX_WORDS),
             ("MAX_ORDER", maghnelt::MAX_ORDER),
