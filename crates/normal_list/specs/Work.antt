@@ -1,5 +1,6 @@
 -- Both accumulating calls as data: what is handed to a call beside the Hessian and the gradient, and what it hands back. Definitions only.
 use Prim.Native.Nat.{ℕ}
+use mathlib.Core.Path.{_≡_}
 use lib.Ieee.{Float}
 use Rattle.call_lists.specs.Calls.{Answer, Call, Made}
 use Rattle.call_lists.specs.Accumulated.{told}
@@ -36,3 +37,7 @@ framesMade w number cost = record { work = frames w; got = record { number = num
 
 abbrev pub matchesMade : map_planes.Work → ℕ → Float → Made Work Got
 matchesMade w number cost = record { work = matches w; got = record { number = number; cost = cost } }
+
+-- a refused call leaves the cost behind its pointer as it was
+abbrev pub Kept : ℕ → Float → Float → Type 0
+Kept number cost cost′ = (number ≡ 0 → ⊥) → cost′ ≡ cost

@@ -12,7 +12,7 @@ returns c =
     let three = third .accumulate3 in
     let two = second .accumulate2 in
     let one = first .accumulate in
-    (_, _, one .ensures .ran, (_, _, two .ensures .ran, (_, _, three .ensures .ran, (refl, refl))))
+    ((_, _, one .ensures .ran, (_, _, two .ensures .ran, (_, _, three .ensures .ran, (refl, refl)))), one .ensures .kept, two .ensures .kept, three .ensures .kept)
 
 pub three-calls-spec : {M : Type 1} → statement M
 three-calls-spec =
