@@ -27,9 +27,10 @@ use Rattle.plane_fit.specs.Records.{recordOf}
 use Rattle.plane_fit.specs.Fit.{fitMean, weighted, total, countAt, weightedAt}
 use Rattle.derivative.specs.Derivative.{normalRow, combined, shifted}
 use Rattle.frame_cost.specs.Cost.{weightOf, scatterOn, costOf, frameCost, fixedCost, costAt, framesCost}
-use Rattle.frame_segment.specs.Frame.{blockEntry}
+use Rattle.frame_segment.specs.Frame.{blockEntry, pulledEntry}
+use Rattle.frame_parts.specs.Frame.{vectorEntry}
 use Rattle.match_rows.specs.Row.{residualAt, rowAt}
-use Rattle.match_sums.specs.Groups.{groupSize, groupSum, byGroups, costTerm, blockTerm, listCost, listBlock}
+use Rattle.match_sums.specs.Groups.{groupSize, groupSum, byGroups, costTerm, blockTerm, vectorTerm, listCost, listBlock, listVector}
 use Rattle.plane_moments.specs.Accumulate.{badLengths, framesRefusal, fitOf, underFit, called, framesCall}
 use Rattle.map_plane.specs.Match.{badPoint, badSigma}
 use Rattle.map_planes.specs.Calls.{badMatches, reasonsAt}
@@ -117,18 +118,21 @@ calls r₁ r₂ r₃ r₄ r₅ =
     record { work = nowhere; got = r₅ } ∷ []
 
 -- what the list has done, of any first content
-pub record Done (r₁ r₂ r₃ r₄ r₅ : Got) (h h′ : List Float) : Type 0 where
+pub record Done (r₁ r₂ r₃ r₄ r₅ : Got) (h g h′ g′ : List Float) : Type 0 where
   -- a segment past the end is refused
   pub past-refused : answerOf r₁ ≡ refusal 10
-  -- without plane the cost is +0, and the cell is kept
+  -- without plane the cost is +0, and the cells are kept
   pub flat-costs : answerOf r₂ ≡ cost zeroF
   pub flat-keeps : getD h′ (cellOf 4 0 0) nan ≡ getD h (cellOf 4 0 0) nan
+  pub flat-keeps-row : getD g′ 0 nan ≡ getD g 0 nan
   -- the match's row is 3, and its residual 1
   pub matched-costs : answerOf r₃ ≡ cost (ofBits binary64 one)
   pub matched-adds : getD h′ (cellOf 4 1 1) nan ≡ getD h (cellOf 4 1 1) nan ⊕ ofBits binary64 nine
+  pub matched-pulls : getD g′ 1 nan ≡ getD g 1 nan ⊕ ofBits binary64 three
   -- two frames on one row add twice, each sum rounded
   pub twice-costs : answerOf r₄ ≡ cost (ofBits binary64 thirtyTwo)
   pub twice-adds : getD h′ (cellOf 4 2 2) nan ≡ getD h (cellOf 4 2 2) nan ⊕ ofBits binary64 twoSeventyTwo ⊕ ofBits binary64 twoSeventyTwo
+  pub twice-pulls : getD g′ 2 nan ≡ getD g 2 nan ⊕ ofBits binary64 sixteen ⊕ ofBits binary64 sixteen
   -- a frame that goes nowhere costs
   pub nowhere-costs : answerOf r₅ ≡ cost (ofBits binary64 sixteen)
   -- a row of one segment and a column of another is no owned cell
@@ -144,18 +148,21 @@ module _ (r₁ r₂ r₃ r₄ r₅ : Got) where
   unfolding framesCall called underFit fitOf framesRefusal badLengths badRecords badCount badTarget finiteAbove badWords badWordAt badWord somewhere someExceeds exceedsAt exceeds lookup wordAt placeOf upto frameSegment smallestAxis atLeastOne absolute risingOf orderOf before keyOf ofBits add mul sub div neg lt le matchesCall accumulateRefusal badMatches reasonsAt badPoint badSigma allFinite
   across-none = ((λ p. p), (⊎-elim (λ p. omega arith) (λ p. p), (⊎-elim (λ p. omega arith) (λ p. p), (⊎-elim (λ p. omega arith) (⊎-elim (λ p. omega arith) (λ p. p)), ((λ p. p), tt)))))
 
-  pub worked : (h g h′ g′ : List Float) → length h ≡ 16 → length g ≡ 4 → Calls h g (calls r₁ r₂ r₃ r₄ r₅) h′ g′ → Done r₁ r₂ r₃ r₄ r₅ h h′
-  unfolding framesCall called underFit fitOf framesRefusal badLengths badRecords badCount badTarget finiteAbove badWords badWordAt badWord somewhere someExceeds exceedsAt exceeds lookup wordAt placeOf upto frameSegment smallestAxis atLeastOne absolute risingOf orderOf before keyOf ofBits add mul sub div neg lt le matchesCall accumulateRefusal badMatches reasonsAt badPoint badSigma allFinite pageOf hessianCell gradientCell framesCost costAt frameCost fixedCost costOf scatterOn weightOf blockEntry recordOf fitMean weighted total countAt weightedAt normalRow combined shifted listCost listBlock byGroups groupSum groupSize costTerm blockTerm residualAt rowAt
+  pub worked : (h g h′ g′ : List Float) → length h ≡ 16 → length g ≡ 4 → Calls h g (calls r₁ r₂ r₃ r₄ r₅) h′ g′ → Done r₁ r₂ r₃ r₄ r₅ h g h′ g′
+  unfolding framesCall called underFit fitOf framesRefusal badLengths badRecords badCount badTarget finiteAbove badWords badWordAt badWord somewhere someExceeds exceedsAt exceeds lookup wordAt placeOf upto frameSegment smallestAxis atLeastOne absolute risingOf orderOf before keyOf ofBits add mul sub div neg lt le matchesCall accumulateRefusal badMatches reasonsAt badPoint badSigma allFinite pageOf hessianCell gradientCell framesCost costAt frameCost fixedCost costOf scatterOn weightOf blockEntry recordOf fitMean weighted total countAt weightedAt normalRow combined shifted listCost listBlock listVector byGroups groupSum groupSize costTerm blockTerm vectorTerm residualAt rowAt vectorEntry pulledEntry
   worked h g h′ g′ lh lg ch =
       let s = settledAt h g h′ g′ lh lg ch in
       record {
         past-refused = s .answers _ (inl refl);
         flat-costs = s .answers _ (inr (inl refl));
         flat-keeps = s .hessian 0 (omega arith) _ (inr (inl refl)) (inl ((omega arith, omega arith), (omega arith, omega arith)));
+        flat-keeps-row = s .gradient 0 (omega arith) _ (inr (inl refl)) (inl (omega arith, omega arith));
         matched-costs = s .answers _ (inr (inr (inl refl)));
         matched-adds = s .hessian 5 (omega arith) _ (inr (inr (inl refl))) (inl ((omega arith, omega arith), (omega arith, omega arith)));
+        matched-pulls = s .gradient 1 (omega arith) _ (inr (inr (inl refl))) (inl (omega arith, omega arith));
         twice-costs = s .answers _ (inr (inr (inr (inl refl))));
         twice-adds = s .hessian 10 (omega arith) _ (inr (inr (inr (inl refl)))) (inl ((omega arith, omega arith), (omega arith, omega arith)));
+        twice-pulls = s .gradient 2 (omega arith) _ (inr (inr (inr (inl refl)))) (inl (omega arith, omega arith));
         nowhere-costs = s .answers _ (inr (inr (inr (inr (inl refl)))));
         across-keeps = s .hessian-kept 9 (omega arith) (every-in _ (calls r₁ r₂ r₃ r₄ r₅) across-none);
       }
