@@ -67,7 +67,7 @@ fn by_hint(n: u64, y: u64) -> Guess
 // The digits of the first `many` numbers, and the hints for them.
 fn fill_digits(xs: &[f64; 32], many: usize, ns: &mut [u64; 32], ys: &mut [u64; 32])
     requires { ⌜ (many ≤ MOST) × (length (now ns) ≡ MOST) × (length (now ys) ≡ MOST) ⌝ }
-    ensures { λ _. ⌜ (length (now (ys .exit)) ≡ MOST) × ((k : ℕ) → k < many → getD (now (ns .exit)) k 0 ≡ digitsOf (getD (now (xs .entry)) k nan)) ⌝ }
+    ensures { λ _. ⌜ (length (now (ns .exit)) ≡ MOST) × (length (now (ys .exit)) ≡ MOST) × ((k : ℕ) → k < many → getD (now (ns .exit)) k 0 ≡ digitsOf (getD (now (xs .entry)) k nan)) ⌝ }
 {
     for k in 0..many {
         let n = digits(xs[k]);
@@ -76,21 +76,15 @@ fn fill_digits(xs: &[f64; 32], many: usize, ns: &mut [u64; 32], ys: &mut [u64; 3
     }
 }
 
-// What the hints lead to.
-fn fill_guesses(
-    ns: &[u64; 32],
-    ys: &[u64; 32],
-    many: usize,
-    roots: &mut [u64; 32],
-    doubts: &mut [u64; 32],
-)
-    requires { ⌜ (many ≤ MOST) × (length (now roots) ≡ MOST) × (length (now doubts) ≡ MOST) ⌝ }
-    ensures { λ _. ⌜ ((k : ℕ) → k < many → Told (getD (now (ns .entry)) k 0) (getD (now (roots .exit)) k 0) (getD (now (doubts .exit)) k 0)) ⌝ }
+// What the hints lead to: roots take the places of the digits, and doubts those of the hints.
+fn fill_guesses(ns: &mut [u64; 32], ys: &mut [u64; 32], many: usize)
+    requires { ⌜ (many ≤ MOST) × (length (now ns) ≡ MOST) × (length (now ys) ≡ MOST) ⌝ }
+    ensures { λ _. ⌜ ((k : ℕ) → k < many → Told (getD (now (ns .entry)) k 0) (getD (now (ns .exit)) k 0) (getD (now (ys .exit)) k 0)) ⌝ }
 {
     for k in 0..many {
         let w = by_hint(ns[k], ys[k]);
-        roots[k] = w.root;
-        doubts[k] = w.doubt;
+        ns[k] = w.root;
+        ys[k] = w.doubt;
     }
 }
 
@@ -132,9 +126,7 @@ pub fn sqrt_all(xs: &mut [f64; 32], many: usize)
 {
     let mut ns: [u64; 32] = [0; 32];
     let mut ys: [u64; 32] = [0; 32];
-    let mut roots: [u64; 32] = [0; 32];
-    let mut doubts: [u64; 32] = [0; 32];
     fill_digits(xs, many, &mut ns, &mut ys);
-    fill_guesses(&ns, &ys, many, &mut roots, &mut doubts);
-    settle(xs, many, &roots, &doubts);
+    fill_guesses(&mut ns, &mut ys, many);
+    settle(xs, many, &ns, &ys);
 }

@@ -36,7 +36,7 @@ loop-again c =
 returns : tie.Need-returns Inv-loop μ-loop
 returns c =
     let l = c .before .loop in
-    (l .inv .2, λ k h. l .inv .3 k (omega arith))
+    (l .inv .1, l .inv .2, λ k h. l .inv .3 k (omega arith))
 
 pub fill-digits-spec : {M : Type 1} → statement M
 fill-digits-spec =
