@@ -145,15 +145,21 @@ fn put_roots(ds: &[u64], from: usize, size: usize, fours: &[f64; 32], roots: &mu
     }
 }
 
-// The same with these worked out, number after number: number e of the batch's k-th frame stands at e * BATCH + k.
-pub fn fill_roots(frames: &[f64], ds: &[u64], from: usize, size: usize, roots: &mut [f64; 80])
-    requires { ⌜ (size ≤ BATCH) × (length (now roots) ≡ ROOTS) × (CENTRED * (from + size) ≤ length (now frames)) × ((from + size + 1) * DECOMPOSITION ≤ length (now ds)) ⌝ }
-    ensures { λ _. ⌜ Rooted (now (frames .entry)) (now (ds .entry)) from size (now (roots .exit)) ⌝ }
+// The same with these worked out in `fours`, number after number: number e of the batch's k-th frame stands at e * BATCH + k.
+pub fn fill_roots(
+    frames: &[f64],
+    ds: &[u64],
+    from: usize,
+    size: usize,
+    fours: &mut [f64; 32],
+    roots: &mut [f64; 80],
+)
+    requires { ⌜ (size ≤ BATCH) × (length (now fours) ≡ FOURS) × (length (now roots) ≡ ROOTS) × (CENTRED * (from + size) ≤ length (now frames)) × ((from + size + 1) * DECOMPOSITION ≤ length (now ds)) ⌝ }
+    ensures { λ _. ⌜ (length (now (fours .exit)) ≡ FOURS) × Rooted (now (frames .entry)) (now (ds .entry)) from size (now (roots .exit)) ⌝ }
 {
-    let mut fours = [0.0; 32];
-    fill_radicands(frames, ds, from, size, &mut fours);
-    square_root::many::sqrt_all(&mut fours, size * 4);
-    put_roots(ds, from, size, &fours, roots);
+    fill_radicands(frames, ds, from, size, fours);
+    square_root::many::sqrt_all(fours, size * 4);
+    put_roots(ds, from, size, fours, roots);
 }
 
 // The root of the k-th frame of a batch.

@@ -156,7 +156,7 @@ fn store_rows(out: &mut [f64], at: usize, stride: usize, size: usize, cells: &[f
     }
 }
 
-// The columns of a batch, +0 but for their blocks, which are stored while the columns are still near.
+// The columns of a batch, +0 but for their blocks, which are worked out in `cells` and stored while the columns are still near.
 fn write_columns(
     frames: &[f64],
     actions: &[f64],
@@ -166,17 +166,17 @@ fn write_columns(
     p: Fitted,
     width: usize,
     rows: usize,
+    cells: &mut [f64; 32],
     jacobian: &mut [f64],
 )
-    requires { ⌜ BatchRoom (now frames) (now actions) from size width rows (length (now jacobian)) ⌝ }
-    ensures { λ _. ⌜ now (jacobian .exit) ≡ putBlocks (cleared (now (jacobian .entry)) from width rows size) from width rows size (λ c k r. columnRows (now (frames .entry)) (now (actions .entry)) p c (rootIn (now (roots .entry)) k) (from + k) ! r) width ⌝ }
+    requires { ⌜ (length (now cells) ≡ FOURS) × BatchRoom (now frames) (now actions) from size width rows (length (now jacobian)) ⌝ }
+    ensures { λ _. ⌜ (length (now (cells .exit)) ≡ FOURS) × (now (jacobian .exit) ≡ putBlocks (cleared (now (jacobian .entry)) from width rows size) from width rows size (λ c k r. columnRows (now (frames .entry)) (now (actions .entry)) p c (rootIn (now (roots .entry)) k) (from + k) ! r) width) ⌝ }
 {
-    let mut cells = [0.0; 32];
     clear_part(jacobian, from * width * rows, size * width * rows);
     for c in 0..width {
-        fill_column(frames, actions, from, size, roots, p, c, &mut cells);
+        fill_column(frames, actions, from, size, roots, p, c, cells);
         let at = (from * width + c) * rows + from * 4;
-        store_rows(jacobian, at, width * rows + 4, size, &cells);
+        store_rows(jacobian, at, width * rows + 4, size, cells);
     }
 }
 
@@ -200,7 +200,7 @@ fn write_frames(
     let mut from = 0;
     while from < count {
         let size = lists::batch_size(count, from, BATCH);
-        frame_roots::fill_roots(frames, ds, from, size, &mut roots);
+        frame_roots::fill_roots(frames, ds, from, size, &mut cells, &mut roots);
         fill_residuals(frames, actions, from, size, &roots, p, &mut cells);
         store_rows(residual, from * 4, 4, size, &cells);
         write_columns(
@@ -212,6 +212,7 @@ fn write_frames(
             p,
             width,
             rows,
+            &mut cells,
             jacobian,
         );
         from = from + size;

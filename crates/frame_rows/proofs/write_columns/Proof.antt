@@ -17,11 +17,11 @@ use Rattle.frame_rows.proofs.write_columns.Statement.{statement}
 use Rattle.frame_rows.proofs.write_columns.Tie as tie
 
 abbrev Inv-loop : tie.InvT-loop
-Inv-loop frames actions from size roots p width rows jacobian₀ cells₀ c₀ jacobian cells c =
+Inv-loop frames actions from size roots p width rows cells₀ jacobian₀ c₀ cells jacobian c =
     (c ≤ width) × (length cells ≡ FOURS) × (length jacobian ≡ length jacobian₀) × (jacobian ≡ putBlocks jacobian₀ from width rows size (λ c k r. columnRows frames actions p c (rootIn roots k) (from + k) ! r) c)
 
 abbrev μ-loop : tie.MeasureT-loop
-μ-loop frames actions from size roots p width rows jacobian₀ cells₀ c₀ jacobian cells c = width - c
+μ-loop frames actions from size roots p width rows cells₀ jacobian₀ c₀ cells jacobian c = width - c
 
 -- the room of a turn, and the Jacobian's length in it
 abbrev start : (t : tie.In-loop Inv-loop μ-loop) → tie.Start Inv-loop μ-loop
@@ -30,13 +30,13 @@ start t = t .before .before .before .before .before .before .before .before .bef
 kept : (t : tie.In-loop Inv-loop μ-loop) → length (t .before .loop .jacobian) ≡ length (start t .args .jacobian .now)
 kept t =
     let made = t .before .before .before .before in
-    t .before .loop .inv .2 ∙ ap length (made .clear-part .ensures) ∙ length-written (start t .args .jacobian .now) _ _ _ (batch-ends _ _ _ _ _ _ _ (start t .pre))
+    t .before .loop .inv .2 ∙ ap length (made .clear-part .ensures) ∙ length-written (start t .args .jacobian .now) _ _ _ (batch-ends _ _ _ _ _ _ _ (start t .pre .1))
 
 fill-column-requires : tie.Need-fill-column-requires Inv-loop μ-loop
 fill-column-requires c κs =
     let t = c .before in
     let l = t .before .loop in
-    let room = start t .pre in
+    let room = start t .pre .1 in
     (omega (arith, t .loop-test .taken, room .narrow), room .few, l .inv .1, omega (arith, room .within), omega (arith, room .within, room .actions-whole))
 
 -- where a turn's column lies
@@ -48,7 +48,7 @@ Placed t =
 
 placed : (t : tie.In-loop Inv-loop μ-loop) → Placed t
 placed t =
-    let room = start t .pre in
+    let room = start t .pre .1 in
     let l = t .before .loop in (
       batch-starts _ _ _ _ _ _ _ room (l .c) (t .loop-test .taken),
       batch-narrow _ _ _ _ _ _ _ room (l .c) (t .loop-test .taken),
@@ -59,7 +59,7 @@ placed t =
 store-rows-requires : tie.Need-store-rows-requires Inv-loop μ-loop
 store-rows-requires c κs =
     let t = c .before .before .before .before in
-    (start t .pre .few, λ k h. rw (kept t) (column-fits _ _ _ _ _ _ _ (start t .pre) (t .before .loop .c) (t .loop-test .taken) k h))
+    (start t .pre .1 .few, λ k h. rw (kept t) (column-fits _ _ _ _ _ _ _ (start t .pre .1) (t .before .loop .c) (t .loop-test .taken) k h))
 
 loop-again : tie.Need-loop-again Inv-loop μ-loop
 loop-again c =
@@ -74,7 +74,7 @@ loop-again c =
     let w = p .store-rows .ensures ∙ put-same (l .jacobian) at step _ (λ k r. columnRows (a .frames .now) (a .actions .now) (a .p) (l .c) (rootIn (a .roots .now) k) (a .from + k) ! r) (a .size) (λ k h r b. ap (λ (v : List Float). v ! r) (held .each k h)) in (
       omega (arith, t .loop-test .taken),
       held .long,
-      ap length w ∙ length-put (l .jacobian) at step _ (a .size) (λ k h. rw (kept t) (column-fits _ _ _ _ _ _ _ (start t .pre) (l .c) (t .loop-test .taken) k h)) ∙ l .inv .2,
+      ap length w ∙ length-put (l .jacobian) at step _ (a .size) (λ k h. rw (kept t) (column-fits _ _ _ _ _ _ _ (start t .pre .1) (l .c) (t .loop-test .taken) k h)) ∙ l .inv .2,
       blocks-more _ (l .jacobian) _ (a .from) (a .width) (a .rows) (a .size) _ (l .c) (l .inv .3) w,
     )
 
@@ -83,15 +83,17 @@ returns c =
     let l = c .before .loop in
     let made = c .before .before .before .before in
     let a = made .before .before .before .before .before .args in
-    let e : l .c ≡ a .width = omega arith in
-    l .inv .3
-    ∙ ap (putBlocks _ (a .from) (a .width) (a .rows) (a .size) _) e
-    ∙ ap (λ (o : List Float). putBlocks o (a .from) (a .width) (a .rows) (a .size) (λ c k r. columnRows (a .frames .now) (a .actions .now) (a .p) c (rootIn (a .roots .now) k) (a .from + k) ! r) (a .width)) (made .clear-part .ensures)
+    let e : l .c ≡ a .width = omega arith in (
+      l .inv .1,
+      l .inv .3
+          ∙ ap (putBlocks _ (a .from) (a .width) (a .rows) (a .size) _) e
+          ∙ ap (λ (o : List Float). putBlocks o (a .from) (a .width) (a .rows) (a .size) (λ c k r. columnRows (a .frames .now) (a .actions .now) (a .p) c (rootIn (a .roots .now) k) (a .from + k) ! r) (a .width)) (made .clear-part .ensures),
+    )
 
 -- the places of the columns that are cleared fit
 module _ (c : tie.After-clear-part-arg Inv-loop μ-loop) where
   ends : let a = c .before .before .before .before .args in a .from * a .width * a .rows + a .size * a .width * a .rows ≤ length (a .jacobian .now)
-  ends = batch-ends _ _ _ _ _ _ _ (c .before .before .before .before .pre)
+  ends = batch-ends _ _ _ _ _ _ _ (c .before .before .before .before .pre .1)
 
 pub write-columns-spec : {M : Type 1} → statement M
 write-columns-spec =
@@ -99,12 +101,12 @@ write-columns-spec =
     (tie.spec
     Inv-loop
     μ-loop
-    (λ c. omega (arith, ends c, first-narrow _ _ _ _ _ _ _ (c .before .before .before .before .pre)))
+    (λ c. omega (arith, ends c, first-narrow _ _ _ _ _ _ _ (c .before .before .before .before .pre .1)))
     (λ c. omega (arith, ends c))
-    (λ c. omega (arith, ends c, size-narrow _ _ _ _ _ _ _ (c .before .before .before .before .pre)))
+    (λ c. omega (arith, ends c, size-narrow _ _ _ _ _ _ _ (c .before .before .before .before .pre .1)))
     (λ c. omega (arith, ends c))
     (λ c κs. ends c)
-    (λ c. (omega arith, refl, refl, blocks-none _ _ _ _ _ _))
+    (λ c. (omega arith, c .before .before .before .before .before .before .before .pre .0, refl, blocks-none _ _ _ _ _ _))
     fill-column-requires
     (λ c. omega (arith, placed (c .before .before)))
     (λ c. omega (arith, placed (c .before .before)))

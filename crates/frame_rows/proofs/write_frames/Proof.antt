@@ -28,71 +28,75 @@ fits b = batch-fits (b .batch-size .ensures) (b .before .loop-test .taken) (omeg
 
 fill-roots-requires : tie.Need-fill-roots-requires Inv-loop μ-loop
 fill-roots-requires c κs =
-    let b = c .before in
+    let b = c .before .before in
     let t = b .before in
     let room = t .before .before .before .before .before .before .before .pre in
-    (fits b .1, t .before .loop .inv .1, omega (arith, fits b .2), omega (arith, fits b .2, room .ds-enough))
+    (fits b .1, t .before .loop .inv .2, t .before .loop .inv .1, omega (arith, fits b .2), omega (arith, fits b .2, room .ds-enough))
 
 fill-residuals-requires : tie.Need-fill-residuals-requires Inv-loop μ-loop
 fill-residuals-requires c κs =
-    let b = c .before .before .before .before in
+    let rooted = c .before .before in
+    let b = rooted .before .before .before in
     let t = b .before in
     let room = t .before .before .before .before .before .before .before .pre in
-    (fits b .1, t .before .loop .inv .2, omega (arith, fits b .2), omega (arith, fits b .2, room .actions-whole))
+    (fits b .1, rooted .fill-roots .ensures .0, omega (arith, fits b .2), omega (arith, fits b .2, room .actions-whole))
 
 mul-store-rows : tie.Need-mul-store-rows Inv-loop μ-loop
 mul-store-rows c =
-    let t = c .before .before .before .before .before .before .before in
+    let t = c .before .before .before .before .before .before .before .before in
     omega (arith, t .loop-test .taken, t .before .before .before .before .before .before .before .pre .residual-whole)
 
 store-rows-requires : tie.Need-store-rows-requires Inv-loop μ-loop
 store-rows-requires c κs =
-    let b = c .before .before .before .before .before .before .before in
+    let b = c .before .before .before .before .before .before .before .before in
     let t = b .before in
     let room = t .before .before .before .before .before .before .before .pre in
     (fits b .1, λ k h. omega (arith, h, fits b .2, room .residual-whole, t .before .loop .inv .3 .rows .size))
 
 write-columns-requires : tie.Need-write-columns-requires Inv-loop μ-loop
 write-columns-requires c κs =
-    let b = c .before .before .before .before .before .before .before .before .before .before .before .before in
+    let filled = c .before .before .before .before .before .before .before .before in
+    let b = filled .before .before .before .before .before .before in
     let t = b .before in
-    let room = t .before .before .before .before .before .before .before .pre in
-    record {
-      some = fits b .0;
-      few = fits b .1;
-      within = fits b .2;
-      actions-whole = room .actions-whole;
-      rows-whole = room .residual-whole;
-      cells-whole = t .before .loop .inv .3 .cells .size;
-      narrow = room .narrow;
-    }
+    let room = t .before .before .before .before .before .before .before .pre in (
+      filled .fill-residuals .ensures .long,
+      record {
+        some = fits b .0;
+        few = fits b .1;
+        within = fits b .2;
+        actions-whole = room .actions-whole;
+        rows-whole = room .residual-whole;
+        cells-whole = t .before .loop .inv .3 .cells .size;
+        narrow = room .narrow;
+      },
+    )
 
 add-from : tie.Need-add-from Inv-loop μ-loop
 add-from c =
-    let b = c .before .before .before .before .before .before .before .before .before .before .before .before .before .before .before in
+    let b = c .before .before .before .before .before .before .before .before .before .before .before .before .before .before .before .before .before in
     omega (arith, fits b .2, b .before .before .before .before .before .before .before .before .pre .residual-whole)
 
 loop-less : tie.Need-loop-less Inv-loop μ-loop
 loop-less c =
-    let b = c .before .before .before .before .before .before .before .before .before .before .before .before .before .before .before in
+    let b = c .before .before .before .before .before .before .before .before .before .before .before .before .before .before .before .before .before in
     omega (arith, fits b .0, fits b .2, b .before .loop-test .taken)
 
 loop-again : tie.Need-loop-again Inv-loop μ-loop
 loop-again c =
     let put = c .before .before in
-    let stored = put .before .before .before .before .before in
+    let stored = put .before .before .before .before .before .before in
     let filled = stored .before .before .before in
     let rooted = filled .before .before .before in
-    let b = rooted .before .before in
+    let b = rooted .before .before .before in
     let l = b .before .before .loop in
     let s = b .before .before .before .before .before .before .before .before in
     let a = s .args in
-    let roots = rooted .fill-roots .ensures in
+    let roots = rooted .fill-roots .ensures .1 in
     let held = filled .fill-residuals .ensures in (
       fits b .2,
       roots .long,
-      held .long,
-      lined-more (a .frames .now) (a .actions .now) (a .ds .now) (a .p) (a .width) (a .residual .now) (a .jacobian .now) (s .pre) (l .residual) (l .jacobian) (l .from) (l .inv .3) _ _ _ _ _ (fits b .2) roots held (stored .store-rows .ensures) (put .write-columns .ensures),
+      put .write-columns .ensures .0,
+      lined-more (a .frames .now) (a .actions .now) (a .ds .now) (a .p) (a .width) (a .residual .now) (a .jacobian .now) (s .pre) (l .residual) (l .jacobian) (l .from) (l .inv .3) _ _ _ _ _ (fits b .2) roots held (stored .store-rows .ensures) (put .write-columns .ensures .1),
     )
 
 returns : tie.Need-returns Inv-loop μ-loop

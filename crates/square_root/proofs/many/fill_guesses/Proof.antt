@@ -32,7 +32,7 @@ loop-again c =
       simp length-set (l .inv .1),
       simp length-set (l .inv .2),
       both-more 0 0 (λ i r d. Told (getD n i 0) r d) (l .ns) (l .ys) (l .k) _ _ (omega arith) (omega arith)
-      (subst (λ (m : ℕ). Told m (c .by-hint .result .root) (c .by-hint .result .doubt)) (l .inv .4 (l .k) (omega arith)) (c .by-hint .ensures)) (l .inv .3),
+          (subst (λ (m : ℕ). Told m (c .by-hint .result .root) (c .by-hint .result .doubt)) (l .inv .4 (l .k) (omega arith)) (c .by-hint .ensures)) (l .inv .3),
       λ i h. getD-set-other (l .ns) (l .k) i _ 0 (λ e. omega arith) ∙ l .inv .4 i (omega arith),
     )
 
