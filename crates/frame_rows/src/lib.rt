@@ -13,7 +13,7 @@ ghost use Rattle.plane_fit.specs.Fit.{frameCount};
 ghost use Rattle.frame_roots.specs.Roots.{rootOf};
 ghost use Rattle.frame_roots.specs.Batch.{BATCH, FOURS, rootIn};
 ghost use Rattle.frame_rows.specs.Rows.{fixedRow, residualOf, jacobianOf};
-ghost use Rattle.frame_rows.specs.Steps.{rowsOf, columnOf, putColumns, putBlocks, cleared, Room, FixedRoom, FramesWritten};
+ghost use Rattle.frame_rows.specs.Steps.{rowsOf, columnOf, putColumns, putBlocks, Room, FixedRoom, FramesWritten};
 ghost use Rattle.frame_rows.specs.Batch.{residualRows, columnRows, BatchRoom};
 use derivative::ACTION;
 use frame_roots::BATCH;
@@ -156,7 +156,7 @@ fn store_rows(out: &mut [f64], at: usize, stride: usize, size: usize, cells: &[f
     }
 }
 
-// The columns of a batch, +0 but for their blocks, which are worked out in `cells` and stored while the columns are still near.
+// The blocks of a batch are stored in its columns, worked out column after column in `cells`.
 fn write_columns(
     frames: &[f64],
     actions: &[f64],
@@ -170,9 +170,8 @@ fn write_columns(
     jacobian: &mut [f64],
 )
     requires { ⌜ (length (now cells) ≡ FOURS) × BatchRoom (now frames) (now actions) from size width rows (length (now jacobian)) ⌝ }
-    ensures { λ _. ⌜ (length (now (cells .exit)) ≡ FOURS) × (now (jacobian .exit) ≡ putBlocks (cleared (now (jacobian .entry)) from width rows size) from width rows size (λ c k r. columnRows (now (frames .entry)) (now (actions .entry)) p c (rootIn (now (roots .entry)) k) (from + k) ! r) width) ⌝ }
+    ensures { λ _. ⌜ (length (now (cells .exit)) ≡ FOURS) × (now (jacobian .exit) ≡ putBlocks (now (jacobian .entry)) from width rows size (λ c k r. columnRows (now (frames .entry)) (now (actions .entry)) p c (rootIn (now (roots .entry)) k) (from + k) ! r) width) ⌝ }
 {
-    clear_part(jacobian, from * width * rows, size * width * rows);
     for c in 0..width {
         fill_column(frames, actions, from, size, roots, p, c, cells);
         let at = (from * width + c) * rows + from * 4;
@@ -200,6 +199,7 @@ fn write_frames(
     let mut from = 0;
     while from < count {
         let size = lists::batch_size(count, from, BATCH);
+        clear_part(jacobian, from * width * rows, size * width * rows);
         frame_roots::fill_roots(frames, ds, from, size, &mut cells, &mut roots);
         fill_residuals(frames, actions, from, size, &roots, p, &mut cells);
         store_rows(residual, from * 4, 4, size, &cells);

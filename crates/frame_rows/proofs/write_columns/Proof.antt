@@ -1,4 +1,4 @@
--- `frame_rows::write_columns` meets its contract: the batch's columns are cleared, and after c turns the first c columns of its blocks are put. Assumes nothing.
+-- `frame_rows::write_columns` meets its contract: after c turns the first c columns of the batch's blocks are put. Assumes nothing.
 use Prim.Native.Nat.{_≤_, _-_, _+_, _*_}
 use mathlib.Core.Path.{_≡_, refl, ap, _∙_}
 use mathlib.Core.List.{List}
@@ -25,12 +25,10 @@ abbrev μ-loop : tie.MeasureT-loop
 
 -- the room of a turn, and the Jacobian's length in it
 abbrev start : (t : tie.In-loop Inv-loop μ-loop) → tie.Start Inv-loop μ-loop
-start t = t .before .before .before .before .before .before .before .before .before
+start t = t .before .before .before .before .before
 
 kept : (t : tie.In-loop Inv-loop μ-loop) → length (t .before .loop .jacobian) ≡ length (start t .args .jacobian .now)
-kept t =
-    let made = t .before .before .before .before in
-    t .before .loop .inv .2 ∙ ap length (made .clear-part .ensures) ∙ length-written (start t .args .jacobian .now) _ _ _ (batch-ends _ _ _ _ _ _ _ (start t .pre .1))
+kept t = t .before .loop .inv .2
 
 fill-column-requires : tie.Need-fill-column-requires Inv-loop μ-loop
 fill-column-requires c κs =
@@ -81,19 +79,8 @@ loop-again c =
 returns : tie.Need-returns Inv-loop μ-loop
 returns c =
     let l = c .before .loop in
-    let made = c .before .before .before .before in
-    let a = made .before .before .before .before .before .args in
-    let e : l .c ≡ a .width = omega arith in (
-      l .inv .1,
-      l .inv .3
-          ∙ ap (putBlocks _ (a .from) (a .width) (a .rows) (a .size) _) e
-          ∙ ap (λ (o : List Float). putBlocks o (a .from) (a .width) (a .rows) (a .size) (λ c k r. columnRows (a .frames .now) (a .actions .now) (a .p) c (rootIn (a .roots .now) k) (a .from + k) ! r) (a .width)) (made .clear-part .ensures),
-    )
-
--- the places of the columns that are cleared fit
-module _ (c : tie.After-clear-part-arg Inv-loop μ-loop) where
-  ends : let a = c .before .before .before .before .args in a .from * a .width * a .rows + a .size * a .width * a .rows ≤ length (a .jacobian .now)
-  ends = batch-ends _ _ _ _ _ _ _ (c .before .before .before .before .pre .1)
+    let a = c .before .before .before .before .before .args in
+    let e : l .c ≡ a .width = omega arith in (l .inv .1, l .inv .3 ∙ ap (putBlocks _ (a .from) (a .width) (a .rows) (a .size) _) e)
 
 pub write-columns-spec : {M : Type 1} → statement M
 write-columns-spec =
@@ -101,12 +88,7 @@ write-columns-spec =
     (tie.spec
     Inv-loop
     μ-loop
-    (λ c. omega (arith, ends c, first-narrow _ _ _ _ _ _ _ (c .before .before .before .before .pre .1)))
-    (λ c. omega (arith, ends c))
-    (λ c. omega (arith, ends c, size-narrow _ _ _ _ _ _ _ (c .before .before .before .before .pre .1)))
-    (λ c. omega (arith, ends c))
-    (λ c κs. ends c)
-    (λ c. (omega arith, c .before .before .before .before .before .before .before .pre .0, refl, blocks-none _ _ _ _ _ _))
+    (λ c. (omega arith, c .before .before .before .pre .0, refl, blocks-none _ _ _ _ _ _))
     fill-column-requires
     (λ c. omega (arith, placed (c .before .before)))
     (λ c. omega (arith, placed (c .before .before)))

@@ -1,12 +1,17 @@
 -- `frame_rows::write_frames` meets its contract: before each batch the rows and blocks of the frames before it are written. Assumes nothing.
-use Prim.Native.Nat.{_+_, _-_, _≤_, _<_}
-use mathlib.Core.Path.{_≡_, refl, sym, _∙_}
+use Prim.Native.Nat.{ℕ, _+_, _-_, _*_, _≤_, _<_}
+use mathlib.Core.Path.{_≡_, refl, sym, ap, subst, _∙_}
+use mathlib.Core.List.{List}
+use lib.Ieee.{Float}
 use native.Mathlib.Omega.{arith}
 use borrow.Author.Needs.{needs}
 use lib.ListN.{length}
 use Rattle.lists.specs.Batch.{batch-fits}
 use Rattle.plane_fit.specs.Fit.{frameCount}
 use Rattle.frame_roots.specs.Batch.{BATCH, ROOTS, FOURS}
+use Rattle.frame_rows.specs.Steps.{putBlocks}
+use Rattle.frame_rows.specs.Batch.{BatchRoom}
+use Rattle.frame_rows.specs.Frames.{batch-ends, first-narrow, size-narrow}
 use Rattle.frame_rows.specs.Loop.{Lined, lined-none, lined-more, lined-all}
 use Rattle.frame_rows.proofs.write_frames.Statement.{statement}
 use Rattle.frame_rows.proofs.write_frames.Tie as tie
@@ -28,7 +33,7 @@ fits b = batch-fits (b .batch-size .ensures) (b .before .loop-test .taken) (omeg
 
 fill-roots-requires : tie.Need-fill-roots-requires Inv-loop μ-loop
 fill-roots-requires c κs =
-    let b = c .before .before in
+    let b = c .before .before .before .before .before .before in
     let t = b .before in
     let room = t .before .before .before .before .before .before .before .pre in
     (fits b .1, t .before .loop .inv .2, t .before .loop .inv .1, omega (arith, fits b .2), omega (arith, fits b .2, room .ds-enough))
@@ -36,49 +41,69 @@ fill-roots-requires c κs =
 fill-residuals-requires : tie.Need-fill-residuals-requires Inv-loop μ-loop
 fill-residuals-requires c κs =
     let rooted = c .before .before in
-    let b = rooted .before .before .before in
+    let b = rooted .before .before .before .before .before .before .before in
     let t = b .before in
     let room = t .before .before .before .before .before .before .before .pre in
     (fits b .1, rooted .fill-roots .ensures .0, omega (arith, fits b .2), omega (arith, fits b .2, room .actions-whole))
 
 mul-store-rows : tie.Need-mul-store-rows Inv-loop μ-loop
 mul-store-rows c =
-    let t = c .before .before .before .before .before .before .before .before in
+    let t = c .before .before .before .before .before .before .before .before .before .before .before .before in
     omega (arith, t .loop-test .taken, t .before .before .before .before .before .before .before .pre .residual-whole)
 
 store-rows-requires : tie.Need-store-rows-requires Inv-loop μ-loop
 store-rows-requires c κs =
-    let b = c .before .before .before .before .before .before .before .before in
+    let b = c .before .before .before .before .before .before .before .before .before .before .before .before in
     let t = b .before in
     let room = t .before .before .before .before .before .before .before .pre in
     (fits b .1, λ k h. omega (arith, h, fits b .2, room .residual-whole, t .before .loop .inv .3 .rows .size))
 
+-- a turn's columns, for a Jacobian that is as long as the loop's
+batch-room : (b : tie.After-batch-size Inv-loop μ-loop) → let a = b .before .before .before .before .before .before .before .before .args in let l = b .before .before .loop in
+    BatchRoom (a .frames .now) (a .actions .now) (l .from) (b .batch-size .result) (a .width) (length (a .residual .now)) (length (l .jacobian))
+batch-room b =
+    let t = b .before in
+    let room = t .before .before .before .before .before .before .before .pre in
+    record {
+      some = fits b .0;
+      few = fits b .1;
+      within = fits b .2;
+      actions-whole = room .actions-whole;
+      rows-whole = room .residual-whole;
+      cells-whole = t .before .loop .inv .3 .cells .size;
+      narrow = room .narrow;
+    }
+
+-- the places of the columns that are cleared fit
+ends : (c : tie.After-clear-part-arg Inv-loop μ-loop) → let b = c .before in let a = b .before .before .before .before .before .before .before .before .args in
+    b .before .before .loop .from * a .width * length (a .residual .now) + b .batch-size .result * a .width * length (a .residual .now) ≤ length (b .before .before .loop .jacobian)
+ends c = batch-ends _ _ _ _ _ _ _ (batch-room (c .before))
+
 write-columns-requires : tie.Need-write-columns-requires Inv-loop μ-loop
 write-columns-requires c κs =
     let filled = c .before .before .before .before .before .before .before .before in
-    let b = filled .before .before .before .before .before .before in
-    let t = b .before in
-    let room = t .before .before .before .before .before .before .before .pre in (
+    let cleared = filled .before .before .before .before .before .before .before .before in
+    let room = batch-room (cleared .before .before) in (
       filled .fill-residuals .ensures .long,
       record {
-        some = fits b .0;
-        few = fits b .1;
-        within = fits b .2;
+        some = room .some;
+        few = room .few;
+        within = room .within;
         actions-whole = room .actions-whole;
-        rows-whole = room .residual-whole;
-        cells-whole = t .before .loop .inv .3 .cells .size;
+        rows-whole = room .rows-whole;
+        cells-whole = cleared .clear-part .kept .0 ∙ room .cells-whole;
         narrow = room .narrow;
       },
     )
 
 add-from : tie.Need-add-from Inv-loop μ-loop
 add-from c =
-    let b = c .before .before .before .before .before .before .before .before .before .before .before .before .before .before .before .before .before in
+    let b = c .before .before .before .before .before .before .before .before .before .before .before .before .before .before .before .before .before .before .before .before .before in
     omega (arith, fits b .2, b .before .before .before .before .before .before .before .before .pre .residual-whole)
 
 loop-less : tie.Need-loop-less Inv-loop μ-loop
 loop-less c =
-    let b = c .before .before .before .before .before .before .before .before .before .before .before .before .before .before .before .before .before in
+    let b = c .before .before .before .before .before .before .before .before .before .before .before .before .before .before .before .before .before .before .before .before .before in
     omega (arith, fits b .0, fits b .2, b .before .loop-test .taken)
 
 loop-again : tie.Need-loop-again Inv-loop μ-loop
@@ -87,16 +112,17 @@ loop-again c =
     let stored = put .before .before .before .before .before .before in
     let filled = stored .before .before .before in
     let rooted = filled .before .before .before in
-    let b = rooted .before .before .before in
+    let b = rooted .before .before .before .before .before .before .before in
     let l = b .before .before .loop in
     let s = b .before .before .before .before .before .before .before .before in
     let a = s .args in
     let roots = rooted .fill-roots .ensures .1 in
+    let b-cleared = rooted .before .before .before .before .before in
     let held = filled .fill-residuals .ensures in (
       fits b .2,
       roots .long,
       put .write-columns .ensures .0,
-      lined-more (a .frames .now) (a .actions .now) (a .ds .now) (a .p) (a .width) (a .residual .now) (a .jacobian .now) (s .pre) (l .residual) (l .jacobian) (l .from) (l .inv .3) _ _ _ _ _ (fits b .2) roots held (stored .store-rows .ensures) (put .write-columns .ensures .1),
+      lined-more (a .frames .now) (a .actions .now) (a .ds .now) (a .p) (a .width) (a .residual .now) (a .jacobian .now) (s .pre) (l .residual) (l .jacobian) (l .from) (l .inv .3) _ _ _ _ _ (fits b .2) roots held (stored .store-rows .ensures) (rw (b-cleared .clear-part .ensures) at (put .write-columns .ensures .1)),
     )
 
 returns : tie.Need-returns Inv-loop μ-loop
@@ -115,6 +141,11 @@ write-frames-spec =
     μ-loop
     loop-holds
     (λ c κs. search needs)
+    (λ c. omega (arith, ends c, first-narrow _ _ _ _ _ _ _ (batch-room (c .before))))
+    (λ c. omega (arith, ends c))
+    (λ c. omega (arith, ends c, size-narrow _ _ _ _ _ _ _ (batch-room (c .before))))
+    (λ c. omega (arith, ends c))
+    (λ c κs. ends c)
     fill-roots-requires
     fill-residuals-requires
     mul-store-rows
