@@ -10,7 +10,7 @@ use point_moments::scatter::Centred;
 ghost use mathlib.Core.Path.{_≡_};
 ghost use Prim.Native.Nat.{_+_, _*_, _≤_};
 ghost use lib.ListN.{length};
-ghost use Rattle.terms.specs.Terms.{addAll, segment};
+ghost use Rattle.terms.specs.Terms.{addAll, segment, block};
 ghost use Rattle.plane_fit.specs.Fit.{frameAt, actionAt};
 ghost use Rattle.frame_segment.specs.Columns.{columns};
 ghost use Rattle.frame_segment.specs.Frame.{blockEntry, pulledEntry};
@@ -83,6 +83,66 @@ fn add_columns(
     }
 }
 
+// The whole block.
+fn add_block(
+    h: &mut [f64],
+    n: usize,
+    at: usize,
+    width: usize,
+    d0: [f64; 9],
+    d1: [f64; 9],
+    d2: [f64; 9],
+    p0: [f64; 9],
+    p1: [f64; 9],
+    p2: [f64; 9],
+    m: [f64; 9],
+    count: f64,
+    weight: f64,
+)
+    requires { ⌜ (width ≤ 9) × (at + width ≤ n) × (length (now h) ≡ n * n) ⌝ }
+    ensures { λ _. ⌜ now (h .exit) ≡ addAll (now (h .entry)) (block n at width (rowsEntry d0 d1 d2 p0 p1 p2 m count weight)) ⌝ }
+{
+    add_columns(
+        h,
+        n,
+        at,
+        width,
+        0,
+        width,
+        d0,
+        d1,
+        d2,
+        p0,
+        p1,
+        p2,
+        m,
+        count,
+        weight,
+    );
+}
+
+// The block of seven columns, in two turns: of seven at once the compiler would make a loop, which is slower.
+fn add_block_of_seven(
+    h: &mut [f64],
+    n: usize,
+    at: usize,
+    d0: [f64; 9],
+    d1: [f64; 9],
+    d2: [f64; 9],
+    p0: [f64; 9],
+    p1: [f64; 9],
+    p2: [f64; 9],
+    m: [f64; 9],
+    count: f64,
+    weight: f64,
+)
+    requires { ⌜ (at + 7 ≤ n) × (length (now h) ≡ n * n) ⌝ }
+    ensures { λ _. ⌜ now (h .exit) ≡ addAll (now (h .entry)) (block n at 7 (rowsEntry d0 d1 d2 p0 p1 p2 m count weight)) ⌝ }
+{
+    add_columns(h, n, at, 7, 0, 3, d0, d1, d2, p0, p1, p2, m, count, weight);
+    add_columns(h, n, at, 7, 3, 4, d0, d1, d2, p0, p1, p2, m, count, weight);
+}
+
 // The vector is added to the gradient from row `at` on.
 fn add_vector(
     g: &mut [f64],
@@ -137,23 +197,7 @@ fn add_three(
     let p0 = derivative::combined_row(d0, d1, d2, [c[0], c[1], c[2]], 3);
     let p1 = derivative::combined_row(d0, d1, d2, [c[3], c[4], c[5]], 3);
     let p2 = derivative::combined_row(d0, d1, d2, [c[6], c[7], c[8]], 3);
-    add_columns(
-        h,
-        n,
-        at,
-        3,
-        0,
-        3,
-        d0,
-        d1,
-        d2,
-        p0,
-        p1,
-        p2,
-        m,
-        f.count,
-        weight,
-    );
+    add_block(h, n, at, 3, d0, d1, d2, p0, p1, p2, m, f.count, weight);
     add_vector(g, at, 3, d0, d1, d2, m, s, t, weight);
 }
 
@@ -186,23 +230,7 @@ fn add_six(
     let p0 = derivative::combined_row(d0, d1, d2, [c[0], c[1], c[2]], 6);
     let p1 = derivative::combined_row(d0, d1, d2, [c[3], c[4], c[5]], 6);
     let p2 = derivative::combined_row(d0, d1, d2, [c[6], c[7], c[8]], 6);
-    add_columns(
-        h,
-        n,
-        at,
-        6,
-        0,
-        6,
-        d0,
-        d1,
-        d2,
-        p0,
-        p1,
-        p2,
-        m,
-        f.count,
-        weight,
-    );
+    add_block(h, n, at, 6, d0, d1, d2, p0, p1, p2, m, f.count, weight);
     add_vector(g, at, 6, d0, d1, d2, m, s, t, weight);
 }
 
@@ -235,41 +263,7 @@ fn add_seven(
     let p0 = derivative::combined_row(d0, d1, d2, [c[0], c[1], c[2]], 7);
     let p1 = derivative::combined_row(d0, d1, d2, [c[3], c[4], c[5]], 7);
     let p2 = derivative::combined_row(d0, d1, d2, [c[6], c[7], c[8]], 7);
-    // Of seven columns at once the compiler would make a loop, which is slower.
-    add_columns(
-        h,
-        n,
-        at,
-        7,
-        0,
-        3,
-        d0,
-        d1,
-        d2,
-        p0,
-        p1,
-        p2,
-        m,
-        f.count,
-        weight,
-    );
-    add_columns(
-        h,
-        n,
-        at,
-        7,
-        3,
-        4,
-        d0,
-        d1,
-        d2,
-        p0,
-        p1,
-        p2,
-        m,
-        f.count,
-        weight,
-    );
+    add_block_of_seven(h, n, at, d0, d1, d2, p0, p1, p2, m, f.count, weight);
     add_vector(g, at, 7, d0, d1, d2, m, s, t, weight);
 }
 
@@ -302,23 +296,7 @@ fn add_nine(
     let p0 = derivative::combined_row(d0, d1, d2, [c[0], c[1], c[2]], 9);
     let p1 = derivative::combined_row(d0, d1, d2, [c[3], c[4], c[5]], 9);
     let p2 = derivative::combined_row(d0, d1, d2, [c[6], c[7], c[8]], 9);
-    add_columns(
-        h,
-        n,
-        at,
-        9,
-        0,
-        9,
-        d0,
-        d1,
-        d2,
-        p0,
-        p1,
-        p2,
-        m,
-        f.count,
-        weight,
-    );
+    add_block(h, n, at, 9, d0, d1, d2, p0, p1, p2, m, f.count, weight);
     add_vector(g, at, 9, d0, d1, d2, m, s, t, weight);
 }
 
@@ -352,23 +330,7 @@ fn add_other(
     let p0 = derivative::combined_row(d0, d1, d2, [c[0], c[1], c[2]], width);
     let p1 = derivative::combined_row(d0, d1, d2, [c[3], c[4], c[5]], width);
     let p2 = derivative::combined_row(d0, d1, d2, [c[6], c[7], c[8]], width);
-    add_columns(
-        h,
-        n,
-        at,
-        width,
-        0,
-        width,
-        d0,
-        d1,
-        d2,
-        p0,
-        p1,
-        p2,
-        m,
-        f.count,
-        weight,
-    );
+    add_block(h, n, at, width, d0, d1, d2, p0, p1, p2, m, f.count, weight);
     add_vector(g, at, width, d0, d1, d2, m, s, t, weight);
 }
 
