@@ -95,8 +95,8 @@ module _ (frames : List Float) (ds : List ℕ) (from : ℕ) where
       }
 
   -- with the roots of these the roots of the batch are those of its frames
-  pub rooted-by : {size : ℕ} {fours fours′ roots : List Float} → size ≤ BATCH → Radicands frames ds from size fours → RootsOf (size * 4) fours fours′ → RootedWith ds from fours′ size roots → Rooted frames ds from size roots
-  rooted-by {size} {fours} {fours′} small radicands taken rooted = record { long = rooted .long; each = λ k l. rooted .each k l ∙ ap numbersOf (one k l) }
+  pub rooted-by : {size : ℕ} {fours fours′ roots : List Float} → Radicands frames ds from size fours → RootsOf (size * 4) fours fours′ → RootedWith ds from fours′ size roots → Rooted frames ds from size roots
+  rooted-by {size} {fours} {fours′} radicands taken rooted = record { long = rooted .long; each = λ k l. rooted .each k l ∙ ap numbersOf (one k l) }
     where
       four : (k : ℕ) → k < size → fourOf fours′ k ≡ rootsOfFour (fourOf fours k)
       four k l =

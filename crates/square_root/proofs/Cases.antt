@@ -1,4 +1,4 @@
--- What `sqrt` and `sqrt_by` return is `squareRoot`, case by case. Assumes nothing.
+-- What `sqrt` and `many::settled` return is `squareRoot`, case by case. Assumes nothing.
 use mathlib.Core.Path.{_≡_, sym, subst}
 use mathlib.Core.Bool.{true}
 use Prim.Native.Nat.{ℕ, _*_, _^_, _<_}

@@ -11,7 +11,7 @@ returns c =
     let filled = taken .before .before in
     let s = filled .before .before .before .before in (
       taken .sqrt-all .ensures .long ∙ filled .fill-radicands .ensures .long,
-      rooted-by (s .args .frames .now) (s .args .ds .now) (s .args .from) (s .pre .0) (filled .fill-radicands .ensures) (taken .sqrt-all .ensures) (c .put-roots .ensures),
+      rooted-by (s .args .frames .now) (s .args .ds .now) (s .args .from) (filled .fill-radicands .ensures) (taken .sqrt-all .ensures) (c .put-roots .ensures),
     )
 
 pub fill-roots-spec : {M : Type 1} → statement M

@@ -117,12 +117,12 @@ loop-again c =
     let s = b .before .before .before .before .before .before .before .before in
     let a = s .args in
     let roots = rooted .fill-roots .ensures .1 in
-    let b-cleared = rooted .before .before .before .before .before in
+    let emptied = rooted .before .before .before .before .before in
     let held = filled .fill-residuals .ensures in (
       fits b .2,
       roots .long,
       put .write-columns .ensures .0,
-      lined-more (a .frames .now) (a .actions .now) (a .ds .now) (a .p) (a .width) (a .residual .now) (a .jacobian .now) (s .pre) (l .residual) (l .jacobian) (l .from) (l .inv .3) _ _ _ _ _ (fits b .2) roots held (stored .store-rows .ensures) (rw (b-cleared .clear-part .ensures) at (put .write-columns .ensures .1)),
+      lined-more (a .frames .now) (a .actions .now) (a .ds .now) (a .p) (a .width) (a .residual .now) (a .jacobian .now) (s .pre) (l .residual) (l .jacobian) (l .from) (l .inv .3) _ _ _ _ _ (fits b .2) roots held (stored .store-rows .ensures) (rw (emptied .clear-part .ensures) at (put .write-columns .ensures .1)),
     )
 
 returns : tie.Need-returns Inv-loop μ-loop
