@@ -2,7 +2,7 @@
 -- `callOf` the book's call of W and the two lengths m and n, and `answerOf` what a result says. Assumes nothing.
 use Prim.Native.Nat.{ℕ, _+_, _*_, _<_, _%_, _/_}
 use mathlib.Core.Path.{_≡_, refl, sym, ap, subst, _∙_}
-use mathlib.Core.List.{List, [], _∷_, map, List·Permᴰ}
+use mathlib.Core.List.{List, [], _∷_, _++_, map, List·Permᴰ}
 use native.Mathlib.Omega.{arith}
 use lib.ListN.{length, getD}
 use lib.Seq.{ext-getD}
@@ -24,6 +24,12 @@ module _ {W R : Type 0} (callOf : ℕ → ℕ → W → Call) (answerOf : R → 
   Chain h g [] h′ g′ = (h′ ≡ h) × (g′ ≡ g)
   Chain h g (e ∷ es) h′ g′ =
       (h₁ : List Float) × (g₁ : List Float) × Ran (callAt (length h) (length g) e) h g (answerOf (e .got)) h₁ g₁ × Chain h₁ g₁ es h′ g′
+
+  -- one call more at the end, as a loop over calls makes it
+  pub chain-more : (h g : List Float) (es : List (Made W R)) (e : Made W R) (h₁ g₁ h′ g′ : List Float) → Chain h g es h₁ g₁ → Ran (callAt (length h₁) (length g₁) e) h₁ g₁ (answerOf (e .got)) h′ g′
+      → Chain h g (es ++ (e ∷ [])) h′ g′
+  chain-more h g [] e h₁ g₁ h′ g′ ch ran = (h′, g′, rw (ch .0, ch .1) at ran, (refl, refl))
+  chain-more h g (d ∷ es) e h₁ g₁ h′ g′ ch ran = (ch .0, ch .1, ch .2, chain-more (ch .0) (ch .1) es e h₁ g₁ h′ g′ (ch .3) ran)
 
   -- no row is in segments of two different accepted calls of the list; a refused call has none
   abbrev pub RowsApart : ℕ → ℕ → List (Made W R) → Type 0
