@@ -23,7 +23,8 @@ digitsOf x = cond (ne x x) 0 (patternDigits (toBits binary64 x))
 abbrev pub Told : ℕ → ℕ → ℕ → Type 0
 Told n r doubt = 2 ^ 52 ≤ n → n < 2 ^ 54 → doubt ≡ 0 → Root (n * 2 ^ 54) r
 
--- the first `many` numbers of ys are the roots of those of xs
+-- the first `many` numbers of ys are the roots of those of xs, and the others those of xs
 pub record RootsOf (many : ℕ) (xs ys : List Float) : Type 0 where
   pub long : length ys ≡ length xs
   pub each : (k : ℕ) → k < many → getD ys k nan ≡ squareRoot (getD xs k nan)
+  pub rest : (k : ℕ) → many ≤ k → getD ys k nan ≡ getD xs k nan

@@ -46,7 +46,7 @@ loop-again c =
 returns : tie.Need-returns Inv-loop μ-loop
 returns c =
     let l = c .before .loop in
-    record { long = l .inv .1 ∙ sym (c .before .before .pre .1); each = λ k h. l .inv .2 k (omega arith) }
+    record { long = l .inv .1 ∙ sym (c .before .before .pre .1); each = λ k h. l .inv .2 k (omega arith); rest = λ k h. l .inv .3 k (omega arith) }
 
 pub settle-spec : {M : Type 1} → statement M
 settle-spec =
