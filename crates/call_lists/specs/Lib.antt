@@ -1,10 +1,11 @@
 pub mod Lists
+pub mod ListLaws
+pub mod Segments
+pub mod SegmentLaws
 pub mod Calls
-pub mod Book
-pub mod Theorem
-pub mod Rows
-pub mod Readings
 pub mod Frames
 pub mod FrameLaws
-pub mod Worked
 pub mod Accumulated
+pub mod Outcomes
+pub mod Fold
+pub mod Chain

@@ -38,9 +38,7 @@ use Rattle.frame_cost.specs.declared.Pull.{Pull}
 -- each frame goes where the map says, `dof` rows wide, with its block and its vector under the plane
 abbrev pub framesUnder : ℕ → List Float → List Float → List ℕ → List Float → Float → Float → Frames
 framesUnder dof frames actions map n offset weight = record {
-  count = frameCount frames;
-  place = lookup map;
-  width = λ k. dof;
+  layout = record { count = frameCount frames; place = lookup map; width = λ k. dof };
   block = λ k. blockEntry (actionAt actions k) (frameAt frames k) n weight;
   vector = λ k. vectorEntry (actionAt actions k) (frameAt frames k) n offset weight;
 }

@@ -18,11 +18,11 @@ use Rattle.normal_blocks.specs.declared.Place.{Place}
 use Rattle.match_sums.specs.declared.MatchSums.{MatchSums}
 use Rattle.match_sums.specs.Sums.{SumsAre}
 use Rattle.match_sums.specs.Groups.{matchCount, listCost, listBlock, listVector}
-use Rattle.call_lists.specs.Lists.{every-append}
-use Rattle.call_lists.specs.Calls.{Call, judged, Tame}
+use Rattle.call_lists.specs.ListLaws.{every-append}
+use Rattle.call_lists.specs.Calls.{Call, judged}
 use Rattle.call_lists.specs.Frames.{Frames, frameHessian, frameGradient, framed}
-use Rattle.call_lists.specs.FrameLaws.{framed-tame, judged-tame}
-use Rattle.call_lists.specs.Accumulated.{Accumulated, accumulated-refused, accumulated-framed}
+use Rattle.call_lists.specs.Accumulated.{Accumulated}
+use Rattle.call_lists.specs.Outcomes.{accumulated-refused, accumulated-framed}
 use Rattle.map_planes.specs.Reasons.{Numbered, orElse, orElse-some, first-append, neither, suc-no, parts-numbered}
 use Rattle.map_planes.specs.Calls.{fit, matchesReasons, matchesRefusal, listReasons, reasonsAt, reasons-numbered}
 
@@ -36,9 +36,7 @@ pub record Work : Type 0 where
 -- "Accepted matches: likewise as one frame, summed by groups"
 abbrev pub framesOf : Work → Frames
 framesOf w = record {
-  count = 1;
-  place = lookup (w .map);
-  width = λ k. w .dof;
+  layout = record { count = 1; place = lookup (w .map); width = λ k. w .dof };
   block = λ k. listBlock (w .action) (w .matches);
   vector = λ k. listVector (w .action) (w .matches);
 }
@@ -80,11 +78,6 @@ accepted-list m n w e =
       square = square (length (w .map)) m n (fit (w .dof) (w .matches) _ (w .action) (both .0) .fits) .1;
       fits = none (someExceeds n (λ k. w .dof) (lookup (w .map)) 1) 9 0 (nine .1) .0;
     }
-
--- WHAT THE THEOREM OVER LISTS OF CALLS ASKS: the call adds to cells of its own segment alone
-pub matches-tame : (m n : ℕ) (w : Work) → Tame n (matchesCall m n w)
-unfolding matchesCall
-matches-tame m n w = judged-tame n (accumulateRefusal m n w) _ (λ e. framed-tame n _ (framesOf w) (accepted-list m n w e .fits))
 
 -- ---- the call's tests as code makes them: the list's with what the target's shape said, then the map's
 module _ (m n : ℕ) (w : Work) (misfit : Bool) (why : ℕ) (shape : misfit ≡ badTarget (length (w .map)) m n)

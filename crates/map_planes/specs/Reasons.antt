@@ -9,7 +9,8 @@ use native.Mathlib.Nat.{eq-or-lt-of-le, le-of-suc-le-suc, not-suc-le-zero}
 use native.Mathlib.Omega.{arith}
 use Rattle.refusals.specs.Refusal.{Reason, firstOf}
 use Rattle.terms.specs.Terms.{upto}
-use Rattle.call_lists.specs.Lists.{Every, every-upto}
+use Rattle.call_lists.specs.Lists.{Every}
+use Rattle.call_lists.specs.ListLaws.{every-upto}
 
 -- a, and b where a is 0
 abbrev pub orElse : ℕ → ℕ → ℕ

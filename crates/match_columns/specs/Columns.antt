@@ -14,7 +14,7 @@ use Rattle.sums.specs.Sum.{grid}
 use Rattle.sums.specs.Laws.{length-grid, at-grid, off-add, up-to}
 use Rattle.lists.specs.Part.{_!_}
 use Rattle.terms.specs.Terms.{cellOf}
-use Rattle.call_lists.specs.Readings.{row-is, column-is}
+use Rattle.terms.specs.Places.{row-is, column-is}
 
 -- a matrix of n rows whose first c columns are f's
 pub record Done (n c : ℕ) (f : ℕ → ℕ → Float) (j : List Float) : Type 0 where

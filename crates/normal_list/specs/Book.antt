@@ -1,11 +1,15 @@
 -- THE BOOK, from document 01's "Many calls on one Hessian": it holds the cells, at the start with their first content, and is fed each call's own
--- inputs alone, in the list's order. Definitions only.
+-- inputs alone, in the list's order. What a call owns comes from the same inputs. Definitions only.
 use Prim.Native.Nat.{ℕ, zero, suc}
 use mathlib.Core.List.{List, [], _∷_}
 use lib.Ieee.{Float}
 use Rattle.sums.specs.Sum.{zeroF}
+use Rattle.normal_blocks.specs.Map.{lookup}
+use Rattle.call_lists.specs.Lists.{Pairs}
+use Rattle.call_lists.specs.Segments.{Layout, Segment, segmentsOf, HasRow, HasCell, Disjoint}
 use Rattle.call_lists.specs.Calls.{Answer, refusal, cost}
 use Rattle.call_lists.specs.Frames.{Frames, hessianCell, gradientCell}
+use Rattle.plane_fit.specs.Fit.{frameCount}
 use Rattle.plane_fit.specs.declared.axis.Fit.{Fit}
 use Rattle.plane_fit.specs.declared.axis.Fit.the-variants.{Plane, NoPlane}
 use Rattle.plane_moments.specs.Accumulate.{FramesWork, fitOf, framesOf, costUnder}
@@ -13,7 +17,34 @@ use Rattle.match_sums.specs.Groups.{listCost}
 use Rattle.map_planes.specs.Accumulate as map_planes
 use Rattle.normal_list.specs.Work.{Work, frames, matches, refusalOf}
 
--- what the book works out for one call: what the call answers, and what it makes of the content of Hessian cell (i, j) and of gradient cell i
+-- ---- what a call owns, with a Hessian of m cells and a gradient of n
+
+-- where its frames go: frame k as word k of the map says, dof rows wide; "a match list is frame 0"
+abbrev pub layoutOf : Work → Layout
+layoutOf (frames w) = record { count = frameCount (w .frames); place = lookup (w .map); width = λ k. w .dof }
+layoutOf (matches w) = record { count = 1; place = lookup (w .map); width = λ k. w .dof }
+
+-- "A mapped frame's segment is the dof rows from its offset"; a refused call has none
+abbrev pub unlessRefused : ℕ → List Segment → List Segment
+unlessRefused zero ss = ss
+unlessRefused (suc k) ss = []
+
+unfoldable pub ownSegments : ℕ → ℕ → Work → List Segment
+ownSegments m n w = unlessRefused (refusalOf m n w) (segmentsOf (layoutOf w))
+
+-- "An accepted call owns gradient cell i if row i is in a segment of its frames"
+abbrev pub OwnsRow : ℕ → ℕ → Work → ℕ → Type 0
+OwnsRow m n w i = HasRow i (ownSegments m n w)
+
+-- "and the Hessian cell of row i and column j if one such segment has both"
+abbrev pub OwnsCell : ℕ → ℕ → Work → ℕ → ℕ → Type 0
+OwnsCell m n w i j = HasCell i j (ownSegments m n w)
+
+-- no row lies in segments of two different accepted calls
+abbrev pub Apart : ℕ → ℕ → List Work → Type 0
+Apart m n ws = Pairs (λ v w. Disjoint (ownSegments m n v) (ownSegments m n w)) ws
+
+-- ---- what the book works out for one call: what the call answers, and what it makes of the content of Hessian cell (i, j) and of gradient cell i
 pub record Page : Type 0 where
   pub answer : Answer
   pub hessian : ℕ → ℕ → Float → Float
@@ -25,7 +56,7 @@ unchanged a = record { answer = a; hessian = λ i j x. x; gradient = λ i x. x }
 
 -- frame after frame, each entry worked out from the own inputs and added to its cell, each sum rounded once
 abbrev pub entered : Float → Frames → Page
-entered x f = record { answer = cost x; hessian = hessianCell f (f .count); gradient = gradientCell f (f .count) }
+entered x f = record { answer = cost x; hessian = hessianCell f (f .layout .count); gradient = gradientCell f (f .layout .count) }
 
 -- "Accepted frames: the cost by the steps above; then, frame after frame, each term"; "No plane: cost 0, no cell changed"
 abbrev pub framesPage : FramesWork → Fit → Page

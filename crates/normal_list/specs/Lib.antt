@@ -1,5 +1,6 @@
 pub mod Work
 pub mod Book
+pub mod Demand
 pub mod Theorem
-pub mod Readings
+pub mod Ownership
 pub mod Worked

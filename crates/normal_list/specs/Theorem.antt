@@ -1,181 +1,231 @@
--- DEMAND 3: what any list of accumulating calls of both factors, refused ones included, has done to one Hessian and one gradient. Assumes nothing.
-use Prim.Native.Nat.{ℕ, zero, suc, _*_, _<_, _%_, _/_}
+-- DEMAND 3 holds: of any list of calls, in any order where rows are apart, and every list of works has its calls. Assumes nothing.
+use Prim.Native.Nat.{ℕ, zero, suc, _*_, _<_}
 use mathlib.Core.Path.{_≡_, refl, sym, ap, _∙_}
-use mathlib.Core.Bool.{false}
-use mathlib.Core.List.{List, [], _∷_, map, List·Permᴰ}
-use native.Mathlib.Nat.{mod-lt, div-add-mod'}
+use mathlib.Core.Bool.{Bool, true, false, not, _||_, or-true}
+use mathlib.Core.List.{List, [], _∷_, _++_, List·Permᴰ}
 use native.Mathlib.Omega.{arith}
+use lib.Dec.{eqb, ltb}
 use lib.ListN.{length, getD}
 use lib.Ieee.{Float, nan}
+use borrow.Author.Tests.{ne-eqb}
+use Rattle.refusals.specs.Refusal.{Reason, _when_, firstOf}
+use Rattle.validate.specs.Finite.{finitePositive}
 use Rattle.sums.specs.Sum.{zeroF}
+use Rattle.terms.specs.Terms.{cellOf}
+use Rattle.terms.specs.Places.{same-row, same-column, cell-fits}
 use Rattle.terms.specs.Cells.{atCell}
 use Rattle.normal_blocks.specs.Map.{someExceeds}
-use Rattle.normal_blocks.specs.Calls.{square}
+use Rattle.normal_blocks.specs.Calls.{badTarget, mapReasons}
+use Rattle.derivative.specs.Action.{actionSize, mostDof}
+use Rattle.plane_fit.specs.Fit.{frameCount}
+use Rattle.plane_fit.specs.Calls.{badActions}
 use Rattle.call_lists.specs.Lists.{In}
-use Rattle.call_lists.specs.Book.{book}
-use Rattle.call_lists.specs.Calls.{cost, Call, answer, judged, hessianTerms, gradientTerms, OwnsRow, OwnsPlace, Tame, Made}
+use Rattle.call_lists.specs.ListLaws.{in-every}
+use Rattle.call_lists.specs.Segments.{Segment, segmentsOf, HasCell}
+use Rattle.call_lists.specs.Calls.{Answer, refusal, cost, Call, answer, judged, hessianTerms, gradientTerms, HasPlace, Tame, Made, works, SameEnd}
 use Rattle.call_lists.specs.Frames.{Frames, framed, idle, hessianCell}
-use Rattle.call_lists.specs.FrameLaws.{framed-hessian, framed-gradient, idle-hessian, idle-gradient}
-use Rattle.call_lists.specs.Theorem.{Chain, RowsApart, SameEnd, booked, settled, any-order}
+use Rattle.call_lists.specs.FrameLaws.{framed-tame, framed-hessian, framed-gradient}
+use Rattle.call_lists.specs.Fold.{cellAfter, after-none}
+use Rattle.call_lists.specs.Chain.{HasChain, has-chain, whole, Folded, folded, settled, any-order}
 use Rattle.plane_fit.specs.declared.axis.Fit.{Fit}
 use Rattle.plane_fit.specs.declared.axis.Fit.the-variants.{Plane, NoPlane}
-use Rattle.plane_moments.specs.Accumulate.{FramesWork, framesRefusal, fitOf, framesOf, costUnder, underFit, called, framesCall, accepted-call, frames-tame}
+use Rattle.plane_moments.specs.Accumulate.{FramesWork, badLengths, framesRefusal, fitOf, framesOf, costUnder, underFit, called, framesCall, accepted-call}
 use Rattle.match_sums.specs.Groups.{listCost}
-use Rattle.map_planes.specs.Accumulate.{accumulateRefusal, matchesCall, accepted-list, matches-tame}
+use Rattle.map_planes.specs.Calls.{badMatches, listReasons}
+use Rattle.map_planes.specs.Accumulate.{accumulateRefusal, matchesCall, accepted-list}
 use Rattle.map_planes.specs.Accumulate as map_planes
-use Rattle.normal_list.specs.Work.{Work, frames, matches, callOf, Got, answerOf}
-use Rattle.normal_list.specs.Book.{Page, unchanged, entered, framesPage, acceptedPage, judgedPage, pageOf, hessianBook, gradientBook}
+use Rattle.normal_list.specs.Work.{Work, frames, matches, refusalOf, callOf, Got, answerOf}
+use Rattle.normal_list.specs.Book.{layoutOf, unlessRefused, ownSegments, OwnsRow, OwnsCell, Apart, Page, unchanged, entered, framesPage, acceptedPage, judgedPage, pageOf, hessianBook, gradientBook}
+use Rattle.normal_list.specs.Demand.{Calls, InTheBook, OwnersAlone, AllRefused, Square, Demand3, WithoutPlane}
 
--- a call adds to no cell that it does not own
-pub tame : (m n : ℕ) (w : Work) → Tame n (callOf m n w)
-tame m n (frames w) = frames-tame m n w
-tame m n (matches w) = matches-tame m n w
+-- ---- a call adds to no cell that it does not own
+judged-tame : (n r : ℕ) (ss : List Segment) (c : Call) → (r ≡ 0 → Tame n ss c) → Tame n (unlessRefused r ss) (judged r c)
+judged-tame n zero ss c t = t refl
+judged-tame n (suc r) ss c t = record { hessian = tt; gradient = tt }
 
--- ---- the page of a call is what the call's terms make of the cells
-
--- a page and a call, with m cells of the Hessian and n rows
-pub record Same (m n : ℕ) (c : Call) (p : Page) : Type 0 where
-  pub answers : answer c ≡ p .answer
-  pub hessian : (k : ℕ) → k < m → (x : Float) → atCell k (hessianTerms c) x ≡ p .hessian (k % n) (k / n) x
-  pub gradient : (i : ℕ) (x : Float) → atCell i (gradientTerms c) x ≡ p .gradient i x
-
-entered-same : (m n : ℕ) (x : Float) (f : Frames) → m ≡ n * n → someExceeds n (f .width) (f .place) (f .count) ≡ false → Same m n (framed n x f) (entered x f)
-entered-same m n x f sq fits = record { answers = refl; hessian = at-place; gradient = framed-gradient n x f }
-  where
-    positive : (n k : ℕ) → k < n * n → 0 < n
-    positive zero k l = absurd (omega arith)
-    positive (suc n) k l = omega arith
-
-    at-place : (k : ℕ) → k < m → (y : Float) → atCell k (hessianTerms (framed n x f)) y ≡ hessianCell f (f .count) (k % n) (k / n) y
-    at-place k l y =
-        let inside : k < n * n = rw sq at l in
-        ap (λ (c : ℕ). atCell c (hessianTerms (framed n x f)) y) (sym (div-add-mod' k n)) ∙ framed-hessian n x f fits (k % n) (k / n) (mod-lt k (positive n k inside)) y
-
-idle-same : (m n : ℕ) (x : Float) (f : Frames) → Same m n (idle x f) (unchanged (cost x))
-idle-same m n x f = record { answers = refl; hessian = λ k l. idle-hessian x f k; gradient = idle-gradient x f }
-
-judged-same : (m n r : ℕ) (c : Call) (p : Page) → (r ≡ 0 → Same m n c p) → Same m n (judged r c) (judgedPage r p)
-unfolding atCell
-judged-same m n zero c p s = s refl
-judged-same m n (suc r) c p s = record { answers = refl; hessian = λ k l x. refl; gradient = λ i x. refl }
-
-plane-same : (m n : ℕ) (w : FramesWork) (f : Fit) → framesRefusal m n w ≡ 0 → Same m n (underFit n w f) (framesPage w f)
+under-tame : (n : ℕ) (w : FramesWork) (f : Fit) → someExceeds n (layoutOf (frames w) .width) (layoutOf (frames w) .place) (layoutOf (frames w) .count) ≡ false → Tame n (segmentsOf (layoutOf (frames w))) (underFit n w f)
 unfolding underFit
-plane-same m n w (Plane a b c offset) e =
-    let ready = accepted-call m n w e .ready in
-    entered-same m n (costUnder w (a ∷ b ∷ c ∷ []) offset) (framesOf w (a ∷ b ∷ c ∷ []) offset) (ready .square) (ready .fits)
-plane-same m n w NoPlane e = idle-same m n zeroF (framesOf w [] zeroF)
+under-tame n w (Plane a b c offset) fit = framed-tame n (costUnder w (a ∷ b ∷ c ∷ []) offset) (framesOf w (a ∷ b ∷ c ∷ []) offset) fit
+under-tame n w NoPlane fit = record { hessian = tt; gradient = tt }
 
-pub page-same : (m n : ℕ) (w : Work) → Same m n (callOf m n w) (pageOf m n w)
+pub tame : (m n : ℕ) (w : Work) → Tame n (ownSegments m n w) (callOf m n w)
+unfolding ownSegments framesCall called matchesCall
+tame m n (frames w) = judged-tame n (framesRefusal m n w) _ (called n w) (λ e. under-tame n w (fitOf w) (accepted-call m n w e .ready .fits))
+tame m n (matches w) =
+    judged-tame n (accumulateRefusal m n w) _ _ (λ e. framed-tame n (listCost (w .action) (w .matches)) (map_planes.framesOf w) (accepted-list m n w e .fits))
+
+-- ---- the page of a call is what the call's terms make of the cells of n rows
+record Same (n : ℕ) (c : Call) (p : Page) : Type 0 where
+  answers : answer c ≡ p .answer
+  hessian : (i j : ℕ) → i < n → (x : Float) → atCell (cellOf n i j) (hessianTerms c) x ≡ p .hessian i j x
+  gradient : (i : ℕ) (x : Float) → atCell i (gradientTerms c) x ≡ p .gradient i x
+
+entered-same : (n : ℕ) (x : Float) (f : Frames) → someExceeds n (f .layout .width) (f .layout .place) (f .layout .count) ≡ false → Same n (framed n x f) (entered x f)
+entered-same n x f fits = record { answers = refl; hessian = framed-hessian n x f fits; gradient = framed-gradient n x f }
+
+judged-same : (n r : ℕ) (c : Call) (p : Page) → (r ≡ 0 → Same n c p) → Same n (judged r c) (judgedPage r p)
+unfolding atCell
+judged-same n zero c p s = s refl
+judged-same n (suc r) c p s = record { answers = refl; hessian = λ i j l x. refl; gradient = λ i x. refl }
+
+plane-same : (m n : ℕ) (w : FramesWork) (f : Fit) → framesRefusal m n w ≡ 0 → Same n (underFit n w f) (framesPage w f)
+unfolding underFit atCell
+plane-same m n w (Plane a b c offset) e =
+    entered-same n (costUnder w (a ∷ b ∷ c ∷ []) offset) (framesOf w (a ∷ b ∷ c ∷ []) offset) (accepted-call m n w e .ready .fits)
+plane-same m n w NoPlane e = record { answers = refl; hessian = λ i j l x. refl; gradient = λ i x. refl }
+
+page-same : (m n : ℕ) (w : Work) → Same n (callOf m n w) (pageOf m n w)
 unfolding pageOf framesCall called matchesCall
-page-same m n (frames w) = judged-same m n (framesRefusal m n w) (called n w) (framesPage w (fitOf w)) (plane-same m n w (fitOf w))
+page-same m n (frames w) = judged-same n (framesRefusal m n w) (called n w) (framesPage w (fitOf w)) (plane-same m n w (fitOf w))
 page-same m n (matches w) =
-    judged-same m n (accumulateRefusal m n w) _ (acceptedPage (matches w))
-    (λ e.
-    let list = accepted-list m n w e in
-    entered-same m n (listCost (w .action) (w .matches)) (map_planes.framesOf w) (list .square) (list .fits))
+    judged-same n (accumulateRefusal m n w) _ (acceptedPage (matches w))
+    (λ e. entered-same n (listCost (w .action) (w .matches)) (map_planes.framesOf w) (accepted-list m n w e .fits))
+
+module _ (m n : ℕ) where
+  hessian-pages : (i j : ℕ) → i < n → (ws : List Work) (x : Float) → cellAfter (λ w. hessianTerms (callOf m n w)) (cellOf n i j) ws x ≡ hessianBook m n ws i j x
+  unfolding cellAfter hessianBook
+  hessian-pages i j l [] x = refl
+  hessian-pages i j l (w ∷ ws) x =
+      hessian-pages i j l ws (atCell (cellOf n i j) (hessianTerms (callOf m n w)) x) ∙ ap (hessianBook m n ws i j) (page-same m n w .hessian i j l x)
+
+  gradient-pages : (i : ℕ) (ws : List Work) (x : Float) → cellAfter (λ w. gradientTerms (callOf m n w)) i ws x ≡ gradientBook m n ws i x
+  unfolding cellAfter gradientBook
+  gradient-pages i [] x = refl
+  gradient-pages i (w ∷ ws) x = gradient-pages i ws (atCell i (gradientTerms (callOf m n w)) x) ∙ ap (gradientBook m n ws i) (page-same m n w .gradient i x)
+
+-- ---- a Hessian that is not square: the shape of the target is tested third
+module _ (m n : ℕ) (other : m ≡ n * n → ⊥) where
+  bad-target : (words : ℕ) → badTarget words m n ≡ true
+  unfolding badTarget
+  bad-target words = rw (ne-eqb m (n * n) other, or-true, or-true)
+
+  by-three : (a b c : Bool) (rest : List Reason) → c ≡ true → (k : ℕ) × (k < 3) × (firstOf (1 when a ∷ 2 when b ∷ 3 when c ∷ rest) ≡ suc k)
+  by-three true b c rest e = (0, omega arith, refl)
+  by-three false true c rest e = (1, omega arith, refl)
+  by-three false false c rest e = (2, omega arith, rw e)
+
+  bad-lengths : (w : FramesWork) → badLengths (w .frames) (w .fixed) (w .decomposition) (length (w .map)) m n ≡ true
+  unfolding badLengths
+  bad-lengths w = rw (bad-target (length (w .map)), or-true, or-true, or-true)
+
+  bad-list : (w : map_planes.Work) → badMatches (w .matches) || badTarget (length (w .map)) m n ≡ true
+  bad-list w = rw (bad-target (length (w .map)), or-true)
+
+  refused-first : (w : Work) → (k : ℕ) × (k < 3) × (refusalOf m n w ≡ suc k)
+  unfolding framesRefusal accumulateRefusal
+  refused-first (frames w) =
+      by-three (ltb mostDof (w .dof)) (eqb (length (w .frames)) 0) _
+      (7 when not (finitePositive (w .sigma)) ∷ 8 when badActions (w .frames) (w .actions) ∷ mapReasons (w .map) (frameCount (w .frames)) (w .dof) n) (bad-lengths w)
+  refused-first (matches w) =
+      by-three (ltb mostDof (w .dof)) (eqb (length (w .matches)) 0) _
+      ((listReasons (w .matches) ++ (8 when not (eqb (length (w .action)) actionSize) ∷ [])) ++ map_planes.listMap n w) (bad-list w)
+
+  refused-call : (w : Work) (k : ℕ) → refusalOf m n w ≡ suc k → (answer (callOf m n w) ≡ refusal (suc k)) × (hessianTerms (callOf m n w) ≡ []) × (gradientTerms (callOf m n w) ≡ [])
+  unfolding framesCall matchesCall
+  refused-call (frames w) k e = (rw e, rw e, rw e)
+  refused-call (matches w) k e = (rw e, rw e, rw e)
+
+  first-refused : (w : Work) → (k : ℕ) × (k < 3) × (answer (callOf m n w) ≡ refusal (suc k)) × (hessianTerms (callOf m n w) ≡ []) × (gradientTerms (callOf m n w) ≡ [])
+  first-refused w =
+      let r = refused-first w in
+      let c = refused-call w (r .0) (r .2) in
+      (r .0, r .1, c .0, c .1, c .2)
 
 -- ---- the theorems
+module _ (h g : List Float) (es : List (Made Work Got)) (h′ g′ : List Float) (calls : Calls h g es h′ g′) where
+  terms-added : Folded callOf answerOf (length h) (length g) h g es h′ g′
+  terms-added = folded callOf answerOf (length h) (length g) h g es h′ g′ refl refl calls
 
--- the calls of a list: each gets the two slices as the one before left them
-abbrev pub Calls : List Float → List Float → List (Made Work Got) → List Float → List Float → Type 0
-Calls = Chain callOf answerOf
+  answered : (e : Made Work Got) → In e es → answerOf (e .got) ≡ pageOf (length h) (length g) (e .work) .answer
+  answered e o = terms-added .answers e o ∙ page-same (length h) (length g) (e .work) .answers
 
--- no row lies in segments of two different accepted calls
-abbrev pub Apart : ℕ → ℕ → List (Made Work Got) → Type 0
-Apart = RowsApart callOf answerOf
+  pub in-the-book : Square h g → InTheBook (length h) (length g) h g es h′ g′
+  in-the-book square =
+      let m = length h in
+      let n = length g in
+      record {
+        answers = answered;
+        hessian = λ i j li lj. terms-added .hessian (cellOf n i j) (rw square (cell-fits n i j li lj)) ∙ hessian-pages m n i j li (works es) (getD h (cellOf n i j) nan);
+        gradient = λ i l. terms-added .gradient i l ∙ gradient-pages m n i (works es) (getD g i nan);
+        hessian-length = terms-added .hessian-length;
+        gradient-length = terms-added .gradient-length;
+      }
 
--- an accepted call of frames without plane
-abbrev pub WithoutPlane : ℕ → ℕ → Work → Type 0
-WithoutPlane m n (frames w) = (framesRefusal m n w ≡ 0) × (fitOf w ≡ NoPlane)
-WithoutPlane m n (matches w) = ⊥
+  pub owners-alone : Square h g → Apart (length h) (length g) (works es) → OwnersAlone (length h) (length g) h g es h′ g′
+  owners-alone square apart =
+      let m = length h in
+      let n = length g in
+      let s = settled callOf answerOf ownSegments tame m n h g es h′ g′ terms-added apart in
+      let inside : (i j : ℕ) → i < n → j < n → cellOf n i j < m = λ i j li lj. rw square (cell-fits n i j li lj) in
+      record {
+        answers = answered;
+        hessian = λ i j li lj w o own. s .hessian (cellOf n i j) (inside i j li lj) w o (i, j, li, refl, own) ∙ page-same m n w .hessian i j li (getD h (cellOf n i j) nan);
+        gradient = λ i l w o own. s .gradient i l w o own ∙ page-same m n w .gradient i (getD g i nan);
+        hessian-kept = λ i j li lj out. s .hessian-kept (cellOf n i j) (inside i j li lj) (λ w o p. out w o (at-cell (ownSegments m n w) i j li p));
+        gradient-kept = s .gradient-kept;
+        hessian-length = terms-added .hessian-length;
+        gradient-length = terms-added .gradient-length;
+      }
+    where
+      at-cell : (ss : List Segment) (i j : ℕ) → i < length g → HasPlace (length g) ss (cellOf (length g) i j) → HasCell i j ss
+      at-cell ss i j l p =
+          let row : p .0 ≡ i = same-row (length g) (p .0) (p .1) i j (p .2) l (sym (p .3)) in
+          let column : p .1 ≡ j = same-column (length g) (p .0) (p .1) i j (p .2) l (sym (p .3)) in
+          rw (row, column) at (p .4)
 
--- WHAT A LIST HAS DONE, whatever the rows: each call has answered as its page has it, and each cell holds what the book makes of its first content
-pub record InTheBook (m n : ℕ) (h g : List Float) (es : List (Made Work Got)) (h′ g′ : List Float) : Type 0 where
-  pub answers : (e : Made Work Got) → In e es → answerOf (e .got) ≡ pageOf m n (e .work) .answer
-  pub hessian : (k : ℕ) → k < m → getD h′ k nan ≡ hessianBook m n (map (λ e. e .work) es) (k % n) (k / n) (getD h k nan)
-  pub gradient : (i : ℕ) → i < n → getD g′ i nan ≡ gradientBook m n (map (λ e. e .work) es) i (getD g i nan)
-  pub hessian-length : length h′ ≡ m
-  pub gradient-length : length g′ ≡ n
+  -- A HESSIAN THAT IS NOT SQUARE in the gradient's length: every call is refused, and both slices stay
+  pub not-square : (Square h g → ⊥) → AllRefused h g es h′ g′
+  not-square other =
+      let m = length h in
+      let n = length g in
+      let all = whole callOf answerOf m n h g es h′ g′ refl refl calls in
+      record {
+        answers = λ e o. let r = first-refused m n other (e .work) in (r .0, r .1, terms-added .answers e o ∙ r .2);
+        hessian = all .hessian ∙ after-none (λ w. hessianTerms (callOf m n w)) (works es) h (in-every (λ (w : Work). hessianTerms (callOf m n w) ≡ []) (works es) (λ w o. first-refused m n other w .3));
+        gradient = all .gradient ∙ after-none (λ w. gradientTerms (callOf m n w)) (works es) g (in-every (λ (w : Work). gradientTerms (callOf m n w) ≡ []) (works es) (λ w o. first-refused m n other w .4));
+      }
 
--- AND WITH ROWS APART: a cell holds what the page of the one call that owns it makes of its first content; a cell that no accepted call owns, or only one
--- without plane, keeps it; a call without plane costs +0
-pub record OwnersAlone (m n : ℕ) (h g : List Float) (es : List (Made Work Got)) (h′ g′ : List Float) : Type 0 where
-  pub answers : (e : Made Work Got) → In e es → answerOf (e .got) ≡ pageOf m n (e .work) .answer
-  pub hessian : (k : ℕ) → k < m → (e : Made Work Got) → In e es → OwnsPlace n (callOf m n (e .work)) k
-      → getD h′ k nan ≡ pageOf m n (e .work) .hessian (k % n) (k / n) (getD h k nan)
-  pub gradient : (i : ℕ) → i < n → (e : Made Work Got) → In e es → OwnsRow (callOf m n (e .work)) i
-      → getD g′ i nan ≡ pageOf m n (e .work) .gradient i (getD g i nan)
-  pub hessian-kept : (k : ℕ) → k < m → ((e : Made Work Got) → In e es → OwnsPlace n (callOf m n (e .work)) k → ⊥) → getD h′ k nan ≡ getD h k nan
-  pub gradient-kept : (i : ℕ) → i < n → ((e : Made Work Got) → In e es → OwnsRow (callOf m n (e .work)) i → ⊥) → getD g′ i nan ≡ getD g i nan
-  pub no-plane-costs : (e : Made Work Got) → In e es → WithoutPlane m n (e .work) → answerOf (e .got) ≡ cost zeroF
-  pub no-plane-hessian : (k : ℕ) → k < m → (e : Made Work Got) → In e es → OwnsPlace n (callOf m n (e .work)) k → WithoutPlane m n (e .work) → getD h′ k nan ≡ getD h k nan
-  pub no-plane-gradient : (i : ℕ) → i < n → (e : Made Work Got) → In e es → OwnsRow (callOf m n (e .work)) i → WithoutPlane m n (e .work) → getD g′ i nan ≡ getD g i nan
-  pub hessian-length : length h′ ≡ m
-  pub gradient-length : length g′ ≡ n
+  -- DEMAND 3
+  pub demand-3 : Demand3 h g es h′ g′
+  demand-3 = record { booked = in-the-book; alone = owners-alone; not-square = not-square }
 
--- the page of a call without plane changes nothing
-no-plane-page : (m n : ℕ) (w : Work) → WithoutPlane m n w → pageOf m n w ≡ unchanged (cost zeroF)
+  -- ANY ORDER of the list, from the same first content, leaves the same cells and answers the same
+  pub in-any-order : (ds : List (Made Work Got)) (h″ g″ : List Float) → Calls h g ds h″ g″ → List·Permᴰ (works es) (works ds) → Apart (length h) (length g) (works es) → SameEnd answerOf es ds h′ g′ h″ g″
+  in-any-order ds h″ g″ others perm apart =
+      any-order callOf answerOf ownSegments tame (length h) (length g) h g es ds h′ g′ h″ g″ terms-added
+      (folded callOf answerOf (length h) (length g) h g ds h″ g″ refl refl others) perm apart
+
+-- ---- every list of works on any two slices has its calls: the hypothesis of the theorems can always be met
+judged-result : (r : ℕ) (c : Call) (x : Float) → cost x ≡ answer c → (got : Got) × (answerOf got ≡ answer (judged r c))
+judged-result zero c x e = (record { number = 0; cost = x }, e)
+judged-result (suc r) c x e = (record { number = suc r; cost = zeroF }, refl)
+
+under-cost : (n : ℕ) (w : FramesWork) (f : Fit) → (x : Float) × (cost x ≡ answer (underFit n w f))
+unfolding underFit
+under-cost n w (Plane a b c offset) = (costUnder w (a ∷ b ∷ c ∷ []) offset, refl)
+under-cost n w NoPlane = (zeroF, refl)
+
+result : (m n : ℕ) (w : Work) → (got : Got) × (answerOf got ≡ answer (callOf m n w))
+unfolding framesCall called matchesCall
+result m n (frames w) = let c = under-cost n w (fitOf w) in judged-result (framesRefusal m n w) (called n w) (c .0) (c .1)
+result m n (matches w) = judged-result (accumulateRefusal m n w) _ (listCost (w .action) (w .matches)) refl
+
+pub calls-exist : (ws : List Work) (h g : List Float) → HasChain callOf answerOf ws h g
+calls-exist = has-chain callOf answerOf result
+
+-- ---- corollaries: the page of a call without plane costs +0 and changes nothing
+pub no-plane-page : (m n : ℕ) (w : Work) → WithoutPlane m n w → pageOf m n w ≡ unchanged (cost zeroF)
 unfolding pageOf
 no-plane-page m n (frames w) p = rw (p .0, p .1)
 no-plane-page m n (matches w) p = absurd p
 
-module _ (m n : ℕ) where
-  hessian-folds : (k : ℕ) → k < m → (es : List (Made Work Got)) (x : Float)
-      → book (λ e. hessianTerms (callOf m n (e .work))) k es x ≡ hessianBook m n (map (λ e. e .work) es) (k % n) (k / n) x
-  unfolding book hessianBook
-  hessian-folds k l [] x = refl
-  hessian-folds k l (e ∷ es) x =
-      hessian-folds k l es (atCell k (hessianTerms (callOf m n (e .work))) x)
-      ∙ ap (hessianBook m n (map (λ e. e .work) es) (k % n) (k / n)) (page-same m n (e .work) .hessian k l x)
+-- so that with rows apart a cell whose owner has no plane keeps its content
+module _ (m n : ℕ) (h g : List Float) (es : List (Made Work Got)) (h′ g′ : List Float) (alone : OwnersAlone m n h g es h′ g′) where
+  pub no-plane-costs : (e : Made Work Got) → In e es → WithoutPlane m n (e .work) → answerOf (e .got) ≡ cost zeroF
+  no-plane-costs e o none = alone .answers e o ∙ ap (λ (p : Page). p .answer) (no-plane-page m n (e .work) none)
 
-  gradient-folds : (i : ℕ) (es : List (Made Work Got)) (x : Float)
-      → book (λ e. gradientTerms (callOf m n (e .work))) i es x ≡ gradientBook m n (map (λ e. e .work) es) i x
-  unfolding book gradientBook
-  gradient-folds i [] x = refl
-  gradient-folds i (e ∷ es) x =
-      gradient-folds i es (atCell i (gradientTerms (callOf m n (e .work))) x)
-      ∙ ap (gradientBook m n (map (λ e. e .work) es) i) (page-same m n (e .work) .gradient i x)
+  pub no-plane-hessian : (i j : ℕ) → i < n → j < n → (w : Work) → In w (works es) → OwnsCell m n w i j → WithoutPlane m n w → getD h′ (cellOf n i j) nan ≡ getD h (cellOf n i j) nan
+  no-plane-hessian i j li lj w o own none = alone .hessian i j li lj w o own ∙ ap (λ (p : Page). p .hessian i j (getD h (cellOf n i j) nan)) (no-plane-page m n w none)
 
-module _ (h g : List Float) (es : List (Made Work Got)) (h′ g′ : List Float) (calls : Calls h g es h′ g′) where
-  -- OF ANY LIST, on a Hessian and a gradient of any lengths and any first content
-  pub in-the-book : InTheBook (length h) (length g) h g es h′ g′
-  in-the-book =
-      let m = length h in
-      let n = length g in
-      let b = booked callOf answerOf m n h g es h′ g′ refl refl calls in
-      record {
-        answers = λ e o. b .answers e o ∙ page-same m n (e .work) .answers;
-        hessian = λ k l. b .hessian k l ∙ hessian-folds m n k l es (getD h k nan);
-        gradient = λ i l. b .gradient i l ∙ gradient-folds m n i es (getD g i nan);
-        hessian-length = b .hessian-length;
-        gradient-length = b .gradient-length;
-      }
-
-  -- DEMAND 3
-  pub owners-alone : Apart (length h) (length g) es → OwnersAlone (length h) (length g) h g es h′ g′
-  owners-alone apart =
-      let m = length h in
-      let n = length g in
-      let s = settled callOf answerOf tame m n h g es h′ g′ refl refl calls apart in
-      let cell : (k : ℕ) → k < m → (e : Made Work Got) → In e es → OwnsPlace n (callOf m n (e .work)) k → getD h′ k nan ≡ pageOf m n (e .work) .hessian (k % n) (k / n) (getD h k nan) =
-      λ k l e o own. s .hessian k l e o own ∙ page-same m n (e .work) .hessian k l (getD h k nan) in
-      let row : (i : ℕ) → i < n → (e : Made Work Got) → In e es → OwnsRow (callOf m n (e .work)) i → getD g′ i nan ≡ pageOf m n (e .work) .gradient i (getD g i nan) =
-      λ i l e o own. s .gradient i l e o own ∙ page-same m n (e .work) .gradient i (getD g i nan) in
-      record {
-        answers = λ e o. s .answers e o ∙ page-same m n (e .work) .answers;
-        hessian = cell;
-        gradient = row;
-        hessian-kept = s .hessian-kept;
-        gradient-kept = s .gradient-kept;
-        no-plane-costs = λ e o p. s .answers e o ∙ page-same m n (e .work) .answers ∙ ap (λ (p : Page). p .answer) (no-plane-page m n (e .work) p);
-        no-plane-hessian = λ k l e o own p. cell k l e o own ∙ ap (λ (p : Page). p .hessian (k % n) (k / n) (getD h k nan)) (no-plane-page m n (e .work) p);
-        no-plane-gradient = λ i l e o own p. row i l e o own ∙ ap (λ (p : Page). p .gradient i (getD g i nan)) (no-plane-page m n (e .work) p);
-        hessian-length = s .hessian-length;
-        gradient-length = s .gradient-length;
-      }
-
-  -- ANY ORDER of the list, from the same first content, leaves the same cells and answers the same
-  pub in-any-order : (ds : List (Made Work Got)) (h″ g″ : List Float) → Calls h g ds h″ g″ → List·Permᴰ (map (λ e. e .work) es) (map (λ d. d .work) ds)
-      → Apart (length h) (length g) es → SameEnd callOf answerOf es ds h′ g′ h″ g″
-  in-any-order ds h″ g″ others perm apart = any-order callOf answerOf tame (length h) (length g) h g es ds h′ g′ h″ g″ refl refl calls others perm apart
+  pub no-plane-gradient : (i : ℕ) → i < n → (w : Work) → In w (works es) → OwnsRow m n w i → WithoutPlane m n w → getD g′ i nan ≡ getD g i nan
+  no-plane-gradient i l w o own none = alone .gradient i l w o own ∙ ap (λ (p : Page). p .gradient i (getD g i nan)) (no-plane-page m n w none)

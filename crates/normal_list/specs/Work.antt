@@ -37,7 +37,3 @@ framesMade w number cost = record { work = frames w; got = record { number = num
 
 abbrev pub matchesMade : map_planes.Work → ℕ → Float → Made Work Got
 matchesMade w number cost = record { work = matches w; got = record { number = number; cost = cost } }
-
--- a refused call leaves the cost behind its pointer as it was
-abbrev pub Kept : ℕ → Float → Float → Type 0
-Kept number cost cost′ = (number ≡ 0 → ⊥) → cost′ ≡ cost

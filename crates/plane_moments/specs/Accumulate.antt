@@ -1,4 +1,4 @@
--- Accumulating frames: the call as the book of many calls on one Hessian has it, from its own inputs and the two lengths. Definitions, and what an accepted
+-- Accumulating frames: the call that the contract speaks of, from its own inputs and the two lengths. Definitions, and what an accepted
 -- call is known by; assumes nothing.
 use Prim.Native.Nat.{ℕ}
 use native.Mathlib.Nat.{le-of-eq}
@@ -15,10 +15,10 @@ use Rattle.validate.specs.Finite.{finitePositive}
 use Rattle.decomposition.specs.Axes.{DECOMPOSITION}
 use Rattle.normal_blocks.specs.Map.{lookup, badWords, someExceeds}
 use Rattle.normal_blocks.specs.Calls.{mapReasons, badTarget, square}
-use Rattle.call_lists.specs.Calls.{Call, judged, Tame}
+use Rattle.call_lists.specs.Calls.{Call, judged}
 use Rattle.call_lists.specs.Frames.{Frames, framed, idle}
-use Rattle.call_lists.specs.FrameLaws.{framed-tame, idle-tame, judged-tame}
-use Rattle.call_lists.specs.Accumulated.{Accumulated, accumulated-refused, accumulated-idle, accumulated-framed}
+use Rattle.call_lists.specs.Accumulated.{Accumulated}
+use Rattle.call_lists.specs.Outcomes.{accumulated-refused, accumulated-idle, accumulated-framed}
 use Rattle.plane_fit.specs.Fit.{Shaped, frameCount, fitMean}
 use Rattle.plane_fit.specs.Calls.{badFrames, badFixed, badActions, one-each, shaped}
 use Rattle.point_moments.specs.Scatter.{CENTRED}
@@ -81,10 +81,10 @@ framesOf w normal offset = framesUnder (w .dof) (w .frames) (w .actions) (w .map
 abbrev pub costUnder : FramesWork → List Float → Float → Float
 costUnder w normal offset = framesCost (w .frames) (w .fixed) (w .actions) normal offset (weightOf (w .sigma))
 
--- frame after frame under the plane. "No plane: cost 0, no cell changed": the frames' segments are the call's, and what stands in for a plane is not asked for
+-- frame after frame under the plane. "No plane: cost 0, no cell changed"
 unfoldable pub underFit : ℕ → FramesWork → Fit → Call
 underFit n w (Plane a b c offset) = framed n (costUnder w (a ∷ b ∷ c ∷ []) offset) (framesOf w (a ∷ b ∷ c ∷ []) offset)
-underFit n w NoPlane = idle zeroF (framesOf w [] zeroF)
+underFit n w NoPlane = idle zeroF
 
 unfoldable pub called : ℕ → FramesWork → Call
 called n w = underFit n w (fitOf w)
@@ -125,16 +125,6 @@ accepted-call m n w h =
       twelve = eqb-true (length (w .decomposition)) DECOMPOSITION (not-false _ (twelve .0));
     }
 
--- what the theorem over lists of calls asks: an accepted call adds to its own cells alone
-under-tame : (n : ℕ) (w : FramesWork) (f : Fit) → someExceeds n (λ k. w .dof) (lookup (w .map)) (frameCount (w .frames)) ≡ false → Tame n (underFit n w f)
-unfolding underFit
-under-tame n w (Plane a b c offset) fit = framed-tame n (costUnder w (a ∷ b ∷ c ∷ []) offset) (framesOf w (a ∷ b ∷ c ∷ []) offset) fit
-under-tame n w NoPlane fit = idle-tame n zeroF (framesOf w [] zeroF)
-
-pub frames-tame : (m n : ℕ) (w : FramesWork) → Tame n (framesCall m n w)
-unfolding framesCall called
-frames-tame m n w = judged-tame n (framesRefusal m n w) (called n w) (λ e. under-tame n w (fitOf w) (accepted-call m n w e .ready .fits))
-
 -- the fit as it is worked out
 pub fit-is : (w : FramesWork) (mean : List Float) (r : Fit) → mean ≡ fitMean (w .frames) (w .fixed) (w .actions) → r ≡ smallestAxis (w .decomposition) mean → fitOf w ≡ r
 unfolding fitOf
@@ -148,7 +138,7 @@ module _ (h g : List Float) (x : Float) (w : FramesWork) where
 
   pub no-plane-call : framesRefusal (length h) (length g) w ≡ 0 → fitOf w ≡ NoPlane → Accumulated (framesCall (length h) (length g) w) h g x 0 h g zeroF
   unfolding framesCall called underFit
-  no-plane-call e none = rw none (accumulated-idle h g x (framesRefusal (length h) (length g) w) zeroF (framesOf w [] zeroF) e)
+  no-plane-call e none = rw none (accumulated-idle h g x (framesRefusal (length h) (length g) w) zeroF e)
 
   pub plane-call : (a b c offset weight r : Float) (h′ g′ : List Float) → framesRefusal (length h) (length g) w ≡ 0 → fitOf w ≡ Plane a b c offset → weight ≡ weightOf (w .sigma)
       → AllAdded (length g) (w .dof) (w .frames) (w .fixed) (w .actions) (w .map) (a ∷ b ∷ c ∷ []) offset weight r h h′ g g′ → Accumulated (framesCall (length h) (length g) w) h g x 0 h′ g′ r

@@ -1,3 +1,4 @@
 pub mod Terms
 pub mod Laws
 pub mod Cells
+pub mod Places

@@ -1,0 +1,106 @@
+-- WHAT A CALL OWNS, both ways: row i exactly if it is among the rows of one of the call's mapped frames, and cell (i, j) exactly if one such frame's rows have
+-- both; and calls whose words do not meet are apart. Assumes nothing.
+use Prim.Native.Nat.{ℕ, zero, suc, _+_, _<_, _≤_}
+use mathlib.Core.Path.{_≡_, refl}
+use mathlib.Core.List.{List}
+use mathlib.Core.Logic.{_⊎_, ⊎-elim}
+use native.Mathlib.Omega.{arith}
+use Rattle.normal_blocks.specs.Map.{lookup}
+use Rattle.normal_blocks.specs.declared.Place.the-variants.{At}
+use Rattle.call_lists.specs.Lists.{Some, Pairs}
+use Rattle.call_lists.specs.ListLaws.{pairs-imp}
+use Rattle.call_lists.specs.Segments.{Segment, segmentsOf, Has, HasBoth, HasRow, Disjoint}
+use Rattle.call_lists.specs.SegmentLaws.{frame-of, of-frame}
+use Rattle.plane_fit.specs.Fit.{frameCount}
+use Rattle.plane_moments.specs.Accumulate.{FramesWork, framesRefusal}
+use Rattle.map_planes.specs.Accumulate.{accumulateRefusal}
+use Rattle.map_planes.specs.Accumulate as map_planes
+use Rattle.normal_list.specs.Work.{Work, frames, matches, refusalOf}
+use Rattle.normal_list.specs.Book.{layoutOf, unlessRefused, ownSegments, OwnsRow, OwnsCell, Apart}
+
+-- row i is one of the dof rows from the offset
+abbrev pub Among : ℕ → ℕ → ℕ → Type 0
+Among offset dof i = (offset ≤ i) × (i < offset + dof)
+
+-- one of the first `count` frames is mapped, and row i is among its rows
+pub record InFrame (count dof : ℕ) (map : List ℕ) (i : ℕ) : Type 0 where
+  pub frame : ℕ
+  pub exists : frame < count
+  pub offset : ℕ
+  pub mapped : lookup map frame ≡ At offset
+  pub row : Among offset dof i
+
+-- and so is column j
+pub record InOneFrame (count dof : ℕ) (map : List ℕ) (i j : ℕ) : Type 0 where
+  pub frame : ℕ
+  pub exists : frame < count
+  pub offset : ℕ
+  pub mapped : lookup map frame ≡ At offset
+  pub row : Among offset dof i
+  pub column : Among offset dof j
+
+abbrev pub Exactly : Type 0 → Type 0 → Type 0
+Exactly A B = (A → B) × (B → A)
+
+-- ---- an accepted call's own segments are those of its layout, and a refused one has none
+module _ (P : Segment → Type 0) where
+  unless-some : (r : ℕ) (ss : List Segment) → Some P (unlessRefused r ss) → (r ≡ 0) × Some P ss
+  unless-some zero ss s = (refl, s)
+  unless-some (suc r) ss s = absurd s
+
+  some-unless : (r : ℕ) (ss : List Segment) → r ≡ 0 → Some P ss → Some P (unlessRefused r ss)
+  some-unless r ss e s = rw e s
+
+module _ (m n : ℕ) where
+  row-exactly : (w : Work) (count dof : ℕ) (map : List ℕ) → layoutOf w ≡ record { count = count; place = lookup map; width = λ k. dof } → (i : ℕ)
+      → Exactly (OwnsRow m n w i) ((refusalOf m n w ≡ 0) × InFrame count dof map i)
+  unfolding ownSegments
+  row-exactly w count dof map e i = (
+    (λ own.
+        let a = unless-some (Has i) (refusalOf m n w) (segmentsOf (layoutOf w)) own in
+        let f = frame-of (Has i) _ (rw e at (a .1)) in
+        (a .0, record { frame = f .0; exists = f .1; offset = f .2; mapped = f .3; row = f .4 })),
+    (λ p. some-unless (Has i) (refusalOf m n w) (segmentsOf (layoutOf w)) (p .0) (rw e (of-frame (Has i) _ (p .1 .frame) (p .1 .offset) (p .1 .exists) (p .1 .mapped) (p .1 .row)))),
+  )
+
+  cell-exactly : (w : Work) (count dof : ℕ) (map : List ℕ) → layoutOf w ≡ record { count = count; place = lookup map; width = λ k. dof } → (i j : ℕ)
+      → Exactly (OwnsCell m n w i j) ((refusalOf m n w ≡ 0) × InOneFrame count dof map i j)
+  unfolding ownSegments
+  cell-exactly w count dof map e i j = (
+    (λ own.
+        let a = unless-some (HasBoth i j) (refusalOf m n w) (segmentsOf (layoutOf w)) own in
+        let f = frame-of (HasBoth i j) _ (rw e at (a .1)) in
+        (a .0, record { frame = f .0; exists = f .1; offset = f .2; mapped = f .3; row = f .4 .0; column = f .4 .1 })),
+    (λ p. some-unless (HasBoth i j) (refusalOf m n w) (segmentsOf (layoutOf w)) (p .0) (rw e (of-frame (HasBoth i j) _ (p .1 .frame) (p .1 .offset) (p .1 .exists) (p .1 .mapped) (p .1 .row, p .1 .column)))),
+  )
+
+  -- frames
+  pub frames-row : (w : FramesWork) (i : ℕ) → Exactly (OwnsRow m n (frames w) i) ((framesRefusal m n w ≡ 0) × InFrame (frameCount (w .frames)) (w .dof) (w .map) i)
+  frames-row w = row-exactly (frames w) (frameCount (w .frames)) (w .dof) (w .map) refl
+
+  pub frames-cell : (w : FramesWork) (i j : ℕ) → Exactly (OwnsCell m n (frames w) i j) ((framesRefusal m n w ≡ 0) × InOneFrame (frameCount (w .frames)) (w .dof) (w .map) i j)
+  frames-cell w = cell-exactly (frames w) (frameCount (w .frames)) (w .dof) (w .map) refl
+
+  -- a match list counts as one frame, that of word 0
+  pub matches-row : (w : map_planes.Work) (i : ℕ) → Exactly (OwnsRow m n (matches w) i) ((accumulateRefusal m n w ≡ 0) × InFrame 1 (w .dof) (w .map) i)
+  matches-row w = row-exactly (matches w) 1 (w .dof) (w .map) refl
+
+  pub matches-cell : (w : map_planes.Work) (i j : ℕ) → Exactly (OwnsCell m n (matches w) i j) ((accumulateRefusal m n w ≡ 0) × InOneFrame 1 (w .dof) (w .map) i j)
+  matches-cell w = cell-exactly (matches w) 1 (w .dof) (w .map) refl
+
+  -- ---- WHAT A HOST LOOKS AT, word by word: if the rows of any two mapped frames of two calls do not meet, the calls are apart, whatever else they are handed
+  abbrev pub WordsApart : Work → Work → Type 0
+  WordsApart v w =
+      (k l o p : ℕ) → k < layoutOf v .count → l < layoutOf w .count → layoutOf v .place k ≡ At o → layoutOf w .place l ≡ At p
+      → (o + layoutOf v .width k ≤ p) ⊎ (p + layoutOf w .width l ≤ o)
+
+  words-disjoint : (v w : Work) → WordsApart v w → Disjoint (ownSegments m n v) (ownSegments m n w)
+  unfolding ownSegments
+  words-disjoint v w apart i a b =
+      let f = frame-of (Has i) (layoutOf v) (unless-some (Has i) (refusalOf m n v) (segmentsOf (layoutOf v)) a .1) in
+      let g = frame-of (Has i) (layoutOf w) (unless-some (Has i) (refusalOf m n w) (segmentsOf (layoutOf w)) b .1) in
+      ⊎-elim (λ h. omega (arith, f .4 .0, f .4 .1, g .4 .0, g .4 .1)) (λ h. omega (arith, f .4 .0, f .4 .1, g .4 .0, g .4 .1))
+      (apart (f .0) (g .0) (f .2) (g .2) (f .1) (g .1) (f .3) (g .3))
+
+  pub words-apart : (ws : List Work) → Pairs WordsApart ws → Apart m n ws
+  words-apart = pairs-imp WordsApart (λ v w. Disjoint (ownSegments m n v) (ownSegments m n w)) words-disjoint
