@@ -7,10 +7,9 @@ use mathlib.Core.Logic.{inl, inr}
 use lib.ListN.{length, getD}
 use lib.Seq.{ext-getD}
 use lib.Ieee.{Float, nan}
-use Rattle.terms.specs.Terms.{Term, cellOf, addAll}
+use Rattle.terms.specs.Terms.{Term, cellOf, addAll, atCell}
 use Rattle.terms.specs.Laws.{length-addAll, addAll-none}
 use Rattle.terms.specs.Places.{same-row}
-use Rattle.terms.specs.Cells.{atCell}
 use Rattle.call_lists.specs.Lists.{In, Every, Pairs}
 use Rattle.call_lists.specs.ListLaws.{every-in, in-every, every-imp, some-imp, pairs-imp}
 use Rattle.call_lists.specs.Segments.{Segment, Has, HasBoth, HasRow, HasCell, Disjoint}

@@ -9,9 +9,9 @@ use lib.Dec.{eqb}
 use lib.ListN.{length, getD}
 use lib.Ieee.{Float, nan}
 use borrow.Author.Tests.{eqb-true, eqb-false}
-use Rattle.terms.specs.Terms.{Term, addAll}
+use Rattle.terms.specs.Terms.{Term, addAll, addIf, atCell}
 use Rattle.terms.specs.Laws.{length-addAll}
-use Rattle.terms.specs.Cells.{addIf, atCell, getD-addAll}
+use Rattle.terms.specs.Cells.{getD-addAll}
 use Rattle.call_lists.specs.Lists.{In, Every, Pairs}
 use Rattle.call_lists.specs.ListLaws.{every-in, every-imp, every-perm, pairs-perm}
 

@@ -6,9 +6,9 @@ use mathlib.Core.List.{List}
 use mathlib.Core.Logic.{inl}
 use native.Mathlib.Omega.{arith}
 use lib.Ieee.{Float}
-use Rattle.terms.specs.Terms.{Term, cellOf, addAll, upto, cellAt, segment, columnAt, block}
+use Rattle.terms.specs.Terms.{Term, cellOf, addAll, upto, cellAt, segment, columnAt, block, atCell}
 use Rattle.terms.specs.Laws.{upto-more}
-use Rattle.terms.specs.Cells.{atCell, atCell-append, segment-cell, block-cell}
+use Rattle.terms.specs.Cells.{atCell-append, segment-cell, block-cell}
 use Rattle.normal_blocks.specs.declared.Place.{Place}
 use Rattle.normal_blocks.specs.declared.Place.the-variants.{At, Unmapped}
 use Rattle.normal_blocks.specs.Map.{exceeds, someExceeds}

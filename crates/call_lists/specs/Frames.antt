@@ -3,8 +3,7 @@ use Prim.Native.Nat.{ℕ, zero, suc, _-_}
 use mathlib.Core.Bool.{_&&_}
 use mathlib.Core.List.{List, []}
 use lib.Ieee.{Float}
-use Rattle.terms.specs.Terms.{Term, upto}
-use Rattle.terms.specs.Cells.{addIf, within}
+use Rattle.terms.specs.Terms.{Term, upto, addIf, within}
 use Rattle.normal_blocks.specs.declared.Place.{Place}
 use Rattle.normal_blocks.specs.declared.Place.the-variants.{At, Unmapped}
 use Rattle.normal_blocks.specs.Target.{hessianAt, gradientAt}

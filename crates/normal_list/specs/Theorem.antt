@@ -11,9 +11,8 @@ use borrow.Author.Tests.{ne-eqb}
 use Rattle.refusals.specs.Refusal.{Reason, _when_, firstOf}
 use Rattle.validate.specs.Finite.{finitePositive}
 use Rattle.sums.specs.Sum.{zeroF}
-use Rattle.terms.specs.Terms.{cellOf}
+use Rattle.terms.specs.Terms.{cellOf, atCell}
 use Rattle.terms.specs.Places.{same-row, same-column, cell-fits}
-use Rattle.terms.specs.Cells.{atCell}
 use Rattle.normal_blocks.specs.Map.{someExceeds}
 use Rattle.normal_blocks.specs.Calls.{badTarget, mapReasons}
 use Rattle.derivative.specs.Action.{actionSize, mostDof}

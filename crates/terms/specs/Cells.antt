@@ -10,22 +10,8 @@ use lib.Seq.{getD-set-same, getD-set-other, lt-length-set}
 use lib.Ieee.{Float, nan}
 use borrow.Author.Tests.{eqb-true, eqb-false, leb-true, ltb-true, ltb-false, le-leb, lt-ltb}
 use Rattle.sums.specs.Sum.{_⊕_}
-use Rattle.terms.specs.Terms.{Term, cellOf, addAt, addAll, upto, cellAt, segment, columnAt, block}
+use Rattle.terms.specs.Terms.{Term, cellOf, addAt, addAll, upto, cellAt, segment, columnAt, block, addIf, atCell, within}
 use Rattle.terms.specs.Laws.{column-before}
-
--- v is added where a test holds
-abbrev pub addIf : Bool → Float → Float → Float
-addIf true x v = x ⊕ v
-addIf false x v = x
-
--- what terms make of the content x of cell k: those for k are added, first to last
-unfoldable pub atCell : ℕ → List Term → Float → Float
-atCell k [] x = x
-atCell k (t ∷ ts) x = atCell k ts (addIf (eqb k (t .cell)) x (t .value))
-
--- row i is one of the `width` rows from `offset` on
-abbrev pub within : ℕ → ℕ → ℕ → Bool
-within offset width i = leb offset i && ltb i (offset + width)
 
 -- ---- the cells of a list to which terms are added
 pub getD-addAt : (h : List Float) (k i : ℕ) (v : Float) → k < length h → getD (addAt h i v) k nan ≡ addIf (eqb k i) (getD h k nan) v

@@ -1,7 +1,9 @@
 -- What is added to a Hessian and a gradient: a list of terms, a cell and a number each, added in the list's order, each sum rounded once.
--- A block's entries are a function of row and column, so that a caller may add what it works out on the fly. Assumes nothing.
+-- A block's entries are a function of row and column, so that a caller may add what it works out on the fly. Definitions only.
 use Prim.Native.Nat.{ℕ, zero, suc, _+_, _*_}
+use mathlib.Core.Bool.{Bool, true, false, _&&_}
 use mathlib.Core.List.{List, [], _∷_, _++_}
+use lib.Dec.{eqb, leb, ltb}
 use lib.ListN.{getD, set}
 use lib.Ieee.{Float, nan}
 use Rattle.sums.specs.Sum.{_⊕_}
@@ -43,3 +45,19 @@ columnAt n offset width e c = segment (cellOf n offset (offset + c)) width (λ r
 -- a block of `width` by `width` entries, at row and column `offset` of a matrix of n rows, column after column
 unfoldable pub block : ℕ → ℕ → ℕ → (ℕ → ℕ → Float) → List Term
 block n offset width e = upto width (columnAt n offset width e)
+
+-- ---- one cell under terms
+
+-- v is added where a test holds
+abbrev pub addIf : Bool → Float → Float → Float
+addIf true x v = x ⊕ v
+addIf false x v = x
+
+-- what terms make of the content x of cell k: those for k are added, first to last
+unfoldable pub atCell : ℕ → List Term → Float → Float
+atCell k [] x = x
+atCell k (t ∷ ts) x = atCell k ts (addIf (eqb k (t .cell)) x (t .value))
+
+-- row i is one of the `width` rows from `offset` on
+abbrev pub within : ℕ → ℕ → ℕ → Bool
+within offset width i = leb offset i && ltb i (offset + width)
