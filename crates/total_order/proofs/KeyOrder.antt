@@ -8,14 +8,19 @@ use native.Mathlib.Nat.{mul-lt-mul-of-pos-right, mul-le-mul-right, mul-le-mul-le
 use native.Mathlib.Omega.{arith}
 use lib.Dec.{ltb, leb}
 use lib.Pow.{pow-pos, pow-mono}
+use lib.IntN.{ℤ}
 use lib.Signed.{leZ}
+use mir.Syntax.{w64}
+use mir.Val.{toZ, ofZ}
+use mir.ValLaws.{toZ-ofZ}
 use borrow.Author.Tests.{ne-eqb, lt-ltb, le-ltb, le-leb, lt-leb}
 use lib.Ieee.{Float, nan, inf, fin, binary64, up, down, ofFields, ofBits, lt, below}
 use lib.Ieee.Exact.{HasValue, odd-sign}
 use lib.Ieee.Fits.{down-pos}
 use Rattle.total_order.specs.Key.{keyOf}
 use Rattle.total_order.specs.TotalOrder.{totalOrder, nanBelow}
-use Rattle.total_order.proofs.KeyLaws.{side, size, sign, signed, key-is}
+use Rattle.total_order.proofs.Parts.{side}
+use Rattle.total_order.proofs.KeyLaws.{size, sign, signed, rank, key-is, key-fits}
 use Rattle.total_order.proofs.NanPatterns.{top, is-nan, no-nan}
 
 -- ---- tests on scaled numbers
@@ -246,10 +251,10 @@ nans false true m n x y e f = refl
 nans true false m n x y e f = refl
 nans true true m n x y e f = e
 
--- signed comparison of keys is totalOrder
-pub key-orders : (a b : ℕ) → a < 2 ^ 64 → b < 2 ^ 64 → leZ (keyOf a) (keyOf b) ≡ totalOrder a b
+-- signed comparison of sizes with their signs is totalOrder
+pub rank-orders : (a b : ℕ) → leZ (rank a) (rank b) ≡ totalOrder a b
 unfolding totalOrder
-key-orders a b h k = rw (key-is a h, key-is b k) (sym (⊎-elim
+rank-orders a b = sym (⊎-elim
     (λ (p : top < size a). ⊎-elim
     (λ (q : top < size b). rw (is-nan a p, is-nan b q) (nans (sign a) (sign b) (size a) (size b) (nanBelow b a) (nanBelow a b) (nans-below b a q p) (nans-below a b p q)))
     (λ (q : size b ≤ top). rw (is-nan a p, no-nan b q) (nan-left (sign a) (sign b) (size a) (size b) (omega arith)))
@@ -258,4 +263,13 @@ key-orders a b h k = rw (key-is a h, key-is b k) (sym (⊎-elim
     (λ (q : top < size b). rw (no-nan a p, is-nan b q) (nan-right (sign a) (sign b) (size a) (size b) (omega arith)))
     (λ (q : size b ≤ top). rw (no-nan a p, no-nan b q, number-lt a b p q, number-lt b a q p) (numbers (sign a) (sign b) (size a) (size b)))
     (side top (size b)))
-    (side top (size a))))
+    (side top (size a)))
+
+-- signed comparison of keys is totalOrder
+pub key-orders : (a b : ℕ) → a < 2 ^ 64 → b < 2 ^ 64 → leZ (keyOf a) (keyOf b) ≡ totalOrder a b
+key-orders a b h k = rw (key-is a h, key-is b k) (rank-orders a b)
+
+-- what a comparison of two keys in the code says of their patterns
+pub order-test : (a b : ℕ) (x y : ℤ) (t : Bool) → a < 2 ^ 64 → b < 2 ^ 64 → x ≡ keyOf a → y ≡ keyOf b → leZ (toZ w64 (ofZ w64 x)) (toZ w64 (ofZ w64 y)) ≡ t → totalOrder a b ≡ t
+order-test a b x y t h k e f g =
+    sym (key-orders a b h k) ∙ rw (toZ-ofZ w64 (keyOf a) (key-fits a h), toZ-ofZ w64 (keyOf b) (key-fits b k)) at (rw (e, f) at g)

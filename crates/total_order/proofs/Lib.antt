@@ -1,3 +1,4 @@
+pub mod Parts
 pub mod KeyLaws
 pub mod NanPatterns
 pub mod KeyOrder

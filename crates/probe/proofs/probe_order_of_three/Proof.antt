@@ -2,7 +2,7 @@
 use mathlib.Core.Path.{_≡_, ap}
 use Prim.Native.Nat.{ℕ, _<_}
 use native.Mathlib.Omega.{arith}
-use Rattle.total_order.specs.Three.{keyAt, orderOf, Rises}
+use Rattle.total_order.specs.Three.{patternAt, orderOf, Rises}
 use Rattle.total_order.specs.declared.Order.{Order}
 use Rattle.total_order.proofs.ThreeLaws.{of-three}
 use Rattle.probe.specs.Digits.{digitsOf}
@@ -13,7 +13,7 @@ use Rattle.probe.proofs.probe_order_of_three.Lts as lts
 use Rattle.total_order.proofs.order_of_three.Reads as order-of-three-reads
 
 -- the three places, each below 3
-places : (c : lts.After-order-of-three (order-of-three-reads.Asked, order-of-three-reads.Learnt) reads.Pre reads.Post) → Rises (keyAt (c .before .args .a) (c .before .args .b) (c .before .args .c)) (c .order-of-three .result)
+places : (c : lts.After-order-of-three (order-of-three-reads.Asked, order-of-three-reads.Learnt) reads.Pre reads.Post) → Rises (patternAt (c .before .args .a) (c .before .args .b) (c .before .args .c)) (c .order-of-three .result)
 places c = rw (c .order-of-three .ensures) (of-three (c .before .args .a) (c .before .args .b) (c .before .args .c))
 
 mul-result : tie.Need-mul-result
