@@ -1,28 +1,29 @@
--- `sqrtOf`, which computes, gives the `IsSquareRoot` of what it is given, and a value has one only. Assumes nothing.
+-- `sqrtOf`, which computes, gives the `IsSquareRoot` of what it is given, a value has one only, and no other value is equally near. Assumes nothing.
 use mathlib.Core.Path.{_≡_, refl, sym, ap, _∙_, subst}
 use mathlib.Core.Logic.{inl, inr}
-use Prim.Native.Nat.{ℕ, zero, suc, _+_, _-_, _*_, _/_, _%_, _^_, _≤_, _<_, zero-le, compare, Ordering, Ordering·lt, Ordering·eq, Ordering·gt}
-use native.Mathlib.Nat.{add-comm, lt-of-mul-lt-mul-right, mul-comm, mul-one, one-mul, mul-assoc, mul-mul-mul-comm, mul-le-mul-right, mul-le-mul-left, mul-lt-mul-of-pos-right, le-div-iff-mul-le, div-lt-iff-lt-mul, div-mul-le-self, lt-suc-self, le-refl, le-trans, le-of-eq, le-of-lt, lt-of-lt-of-le, lt-of-le-of-lt, lt-of-not-le, not-le-of-lt, eq-zero-or-pos, mul-pos, mul-div-cancel, mul-right-comm, pow-succ', pow-suc, suc-mul, zero-lt-suc}
+use Prim.Native.Nat.{ℕ, zero, suc, _+_, _-_, _*_, _/_, _^_, _≤_, _<_, zero-le, compare, Ordering, Ordering·lt, Ordering·eq, Ordering·gt}
+use native.Mathlib.Nat.{mul-comm, mul-one, one-mul, mul-assoc, mul-mul-mul-comm, mul-le-mul-right, mul-le-mul-left, mul-lt-mul-of-pos-right, le-div-iff-mul-le, div-lt-iff-lt-mul, div-mul-le-self, lt-suc-self, le-refl, le-trans, le-of-eq, le-of-lt, lt-of-lt-of-le, lt-of-le-of-lt, lt-of-not-le, not-le-of-lt, eq-zero-or-pos, mul-pos, mul-div-cancel, mul-right-comm, pow-succ', pow-suc, suc-mul, zero-lt-suc}
 use native.Mathlib.Decide.{decLe}
 use native.Mathlib.Omega.{arith}
-use mathlib.Core.Bool.{Bool, true, false, not, _&&_, cond}
+use mathlib.Core.Bool.{Bool, true, false, not, cond}
 use lib.IntN.{ℤ}
-use lib.Dec.{T, leb, leb→le, nleb→lt, ltb, lt→ltb, ltb→lt, isLe, isEq, eqb, eqb→eq, eqb-refl}
+use lib.Dec.{T, leb, leb→le, nleb→lt, ltb, lt→ltb, isLe, isEq, eqb, eqb→eq, eqb-refl}
 use lib.Arith.{lt-of-le-ne}
 use lib.Pow.{pow-add, pow-pos, pow-mono, pow-lt}
-use lib.Ieee.{Float, nan, inf, fin, Format, binary32, binary64, prec, emax, low, up, down, size, nearest, odd, units, fits, lt, hid, top, toBits, ofBits}
-use lib.Ieee.Digits.{size-lt, size-reaches, back}
-use lib.Ieee.Fits.{two, two-le-pos, kept-lt, nearest-le, odd-fits, down-pos, up-pos, and-r}
+use lib.Ieee.{Float, nan, inf, fin, Format, binary32, binary64, prec, emax, low, up, down, size, nearest, odd, units, fits}
+use lib.Ieee.Digits.{size-lt, back}
+use lib.Ieee.Fits.{two, two-le-pos, kept-lt, nearest-le, odd-fits, down-pos, up-pos}
 use lib.Ieee.Exact.{HasValue, units-val}
-use lib.Ieee.Bits.{is-true, ofBits-toBits}
-use lib.Ieee.Nearest.{div-same}
-use lib.Ieee.Positive.{num, den, first-pos}
-use Rattle.square_root.specs.SquareRoot.{IsSquareRoot, Nearest}
+use lib.Ieee.Bits.{is-true}
+use lib.Ieee.Scale.{finite}
+use lib.Ieee.Positive.{positive, first-pos}
+use Rattle.square_root.specs.SquareRoot.{IsSquareRoot, Tie}
 use Rattle.square_root.specs.Steps.{Root}
 use Rattle.square_root.specs.Computed.{lastDigit, wholeRoot, roundRoot, sqrtOf}
-use Rattle.square_root.proofs.Karatsuba.{square, squares}
+use Rattle.square_root.proofs.Karatsuba.{square, squares, squares-lt}
 use Rattle.square_root.proofs.Gap.{Nearby}
-use Rattle.square_root.proofs.Values.{on-grid, nearest as nearest-value}
+use Rattle.square_root.proofs.Values.{Nearer, on-grid, nearer}
+use Rattle.square_root.proofs.Ties.{drops, keeps, half, reaches, lead, below-end, alone, is-nearest, nearest-unique}
 
 -- ---- the whole part of a root
 last-digit : (n s : ℕ) → Root (n / 4) s → Root n (lastDigit n (2 * s))
@@ -73,13 +74,7 @@ cmp a b = go (compare a b) (leb→le a b) (nleb→lt a b) (eqb→eq a b) (λ (e 
     go Ordering·eq h k e n = e tt
     go Ordering·gt h k e n = k tt
 
--- ---- the digits kept of w, the whole part of the root of n, in a format of p digits: k are dropped
-abbrev drops : (p w : ℕ) → ℕ
-drops p w = size w - p
-
-abbrev keeps : (p w : ℕ) → ℕ
-keeps p w = w / 2 ^ (size w - p)
-
+-- ---- w is the whole part of the root of n, in a format of p digits
 abbrev mean : (p w : ℕ) → ℕ
 mean p w = (2 * (w / 2 ^ (size w - p)) + 1) * 2 ^ (size w - p)
 
@@ -96,21 +91,11 @@ module _ (p n w : ℕ) (P : 0 < p) (N : 0 < n) (root : Root n w) where
   w-pos : 0 < w
   w-pos = elim (eq-zero-or-pos w) [ inl z ↦ absurd (not-le-of-lt (lt-of-lt-of-le (root .high) (le-of-eq (ap (λ (x : ℕ). (x + 1) * (x + 1)) z))) N) | inr h ↦ h ]
 
-  -- where digits are dropped
-  reaches : 0 < k → 2 ^ (p - 1) * 2 ^ k ≤ w
-  reaches h = le-trans (le-of-eq (sym (pow-add 2 (p - 1) k))) (size-reaches w (p - 1 + k) (in-use (size w) p P h))
-    where
-      in-use : (z p : ℕ) → 0 < p → 0 < z - p → p - 1 + (z - p) < z
-      in-use z p a b = omega arith
-
-  lead : 0 < k → 2 ^ (p - 1) ≤ q
-  lead h = le-div-iff-mul-le (pow-pos k) .1 (reaches h)
-
   q-pos : 0 < q
-  q-pos = elim (eq-zero-or-pos k) [ inl z ↦ subst (λ (x : ℕ). 0 < w / 2 ^ x) (sym z) (le-div-iff-mul-le (pow-pos 0) .1 w-pos) | inr h ↦ lt-of-lt-of-le (pow-pos (p - 1)) (lead h) ]
+  q-pos = elim (eq-zero-or-pos k) [ inl z ↦ subst (λ (x : ℕ). 0 < w / 2 ^ x) (sym z) (le-div-iff-mul-le (pow-pos 0) .1 w-pos) | inr h ↦ lt-of-lt-of-le (pow-pos (p - 1)) (lead p w P h) ]
 
   digits : 0 < k → 2 ^ (p - 1) * 2 ^ k * (2 ^ (p - 1) * 2 ^ k) ≤ n
-  digits h = le-trans (squares (reaches h)) (root .low)
+  digits h = le-trans (squares (reaches p w P h)) (root .low)
 
   floor : q * 2 ^ k ≤ w
   floor = div-mul-le-self w (2 ^ k)
@@ -145,9 +130,6 @@ module _ (p n w : ℕ) (P : 0 < p) (N : 0 < n) (root : Root n w) where
       same : (r : ℕ) → 2 * r + 1 ≡ suc (2 * r)
       same r = omega arith
 
-  strict : {x y : ℕ} → x < y → x * x < y * y
-  strict {x} {y} l = lt-of-le-of-lt (le-trans (mul-le-mul-right x (le-of-lt l)) (le-of-eq (mul-comm y x))) (mul-lt-mul-of-pos-right l (lt-of-le-of-lt zero-le l))
-
   -- rounded by how 4 * n compares with the square of twice the mean, where the two are not equal
   pub rounds : (4 * n ≡ mid * mid → ⊥) → Nearby (p - 1) n k (nearest q (compare (4 * n) (mid * mid)))
   rounds no-tie = go (compare (4 * n) (mid * mid)) (cmp (4 * n) (mid * mid))
@@ -164,15 +146,15 @@ module _ (p n w : ℕ) (P : 0 < p) (N : 0 < n) (root : Root n w) where
       go : (o : Ordering) → Cmp o (4 * n) (mid * mid) → Nearby (p - 1) n k (nearest q o)
       go Ordering·lt h = record {
         some = q-pos;
-        lead = lead;
+        lead = lead p w P;
         digits = digits;
-        low = lt-of-lt-of-le (strict (under (q * 2 ^ k) (2 ^ k) ((2 * q - 1) * 2 ^ k) (one-down q (2 ^ k) q-pos) (pow-pos k))) above-floor;
+        low = lt-of-lt-of-le (squares-lt (under (q * 2 ^ k) (2 ^ k) ((2 * q - 1) * 2 ^ k) (one-down q (2 ^ k) q-pos) (pow-pos k))) above-floor;
         high = h;
       }
       go Ordering·eq h = absurd (no-tie h)
       go Ordering·gt h = record {
         some = zero-lt-suc q;
-        lead = λ g. le-trans (lead g) (le-of-lt (lt-suc-self q));
+        lead = λ g. le-trans (lead p w P g) (le-of-lt (lt-suc-self q));
         digits = digits;
         low = subst (λ (x : ℕ). x * 2 ^ k * (x * 2 ^ k) < 4 * n) (sym (pred q)) h;
         high = lt-of-lt-of-le below-ceiling (squares (le-trans (past (q * 2 ^ k) (2 ^ k)) (le-of-eq (ap (λ (x : ℕ). 2 * x + 2 ^ k) (sym (suc-mul q (2 ^ k))) ∙ sym (one-up (suc q) (2 ^ k))))));
@@ -272,16 +254,10 @@ module _ (f : Format) (x : Float) (m j w : ℕ) (vx : HasValue x false (m * 2 ^ 
 
       large : (q : ℕ) → 0 < drops (prec f) w → m < (2 * keeps (prec f) w + 1) * (2 * keeps (prec f) w + 1)
       large q h =
-          let g = lead (prec f) (m * 2 ^ j * 2 ^ low f) w P N root h in
+          let g = lead (prec f) w P h in
           let c = keeps (prec f) w in
           lt-of-lt-of-le few (le-trans (wide (2 ^ prec f) (2 ^ (prec f - 1)) c (half (prec f) P) g) (le-trans (le-of-eq (sym (one-mul (2 * c + 1)))) (mul-le-mul-right (2 * c + 1) (one c))))
         where
-          half : (p : ℕ) → 0 < p → 2 ^ p ≡ 2 * 2 ^ (p - 1)
-          half p h = ap (λ (x : ℕ). 2 ^ x) (pred p h) ∙ pow-succ' 2 (p - 1)
-            where
-              pred : (p : ℕ) → 0 < p → p ≡ suc (p - 1)
-              pred p h = omega arith
-
           wide : (a b c : ℕ) → a ≡ 2 * b → b ≤ c → a ≤ 2 * c + 1
           wide a b c e h = omega arith
 
@@ -319,17 +295,13 @@ module _ (f : Format) (x : Float) (m j w : ℕ) (vx : HasValue x false (m * 2 ^ 
       subst (λ (y : Float). T (fits f y)) (sym (units-odd f false result (drops (prec f) w) in-range))
       (odd-fits f (suc (prec f)) false result (drops (prec f) w) (lt-of-le-of-lt result-le (pow-lt (le-refl (suc (prec f))))) result-le in-range)
 
-  core-nearest : Nearest f x (core f (m * 2 ^ j * 2 ^ low f) w)
-  core-nearest =
-      nearest-value f x (core f (m * 2 ^ j * 2 ^ low f) w) (m * 2 ^ j) (drops (prec f) w) result vx (units-val f false result (drops (prec f) w) in-range)
+  core-nearer : Nearer f x (core f (m * 2 ^ j * 2 ^ low f) w)
+  core-nearer =
+      nearer f x (core f (m * 2 ^ j * 2 ^ low f) w) (m * 2 ^ j) (drops (prec f) w) result vx (units-val f false result (drops (prec f) w) in-range)
       (rounds (prec f) (m * 2 ^ j * 2 ^ low f) w P N root no-tie) core-fits
 
 -- ---- `sqrtOf` is a square root
-from-fits : (f : Format) (s : Bool) (m : ℕ) (e : ℤ) → T (fits f (fin s (suc m) e)) → suc m * up e < 2 ^ suc (emax f) * down e
-unfolding fits
-from-fits f s m e t = ltb→lt (suc m * up e) (2 ^ suc (emax f) * down e) (and-r (eqb (suc m % 2) 1 && ltb (suc m) (2 ^ prec f) && leb (down e) (2 ^ low f)) (ltb (suc m * up e) (2 ^ suc (emax f) * down e)) t)
-
-pub positive-root : (f : Format) (m : ℕ) (e : ℤ) → T (fits f (fin false (suc m) e)) → Nearest f (fin false (suc m) e) (roundRoot f (suc m * up e * 2 ^ (low f + low f) / down e))
+pub positive-root : (f : Format) (m : ℕ) (e : ℤ) → T (fits f (fin false (suc m) e)) → Nearer f (fin false (suc m) e) (roundRoot f (suc m * up e * 2 ^ (low f + low f) / down e))
 positive-root f m e t =
     let z = on-grid f false (suc m) e t in
     let l = 2 ^ low f in
@@ -338,15 +310,11 @@ positive-root f m e t =
     let is : suc m * up e * 2 ^ (low f + low f) / down e ≡ n =
     ap (λ (y : ℕ). y / down e) (ap (λ (y : ℕ). suc m * up e * y) (pow-add 2 (low f) (low f)) ∙ sym (mul-assoc (suc m * up e) l l) ∙ ap (λ (y : ℕ). y * l) (z .3) ∙ mul-right-comm x (down e) l) ∙ mul-div-cancel n (down-pos e) in
     let some : 0 < x = first-pos x (down e) (subst (λ (y : ℕ). 0 < y) (z .3) (mul-pos (mul-pos (zero-lt-suc m) (up-pos e)) (pow-pos (low f)))) in
-    let bound : x < 2 ^ (low f + suc (emax f)) =
-    lt-of-mul-lt-mul-right (down e)
-    (subst (λ (y : ℕ). y < 2 ^ (low f + suc (emax f)) * down e) (z .3)
-    (subst (λ (y : ℕ). suc m * up e * l < y) (mul-right-comm (2 ^ suc (emax f)) (down e) l ∙ ap (λ (y : ℕ). y * down e) (mul-comm (2 ^ suc (emax f)) l ∙ sym (pow-add 2 (low f) (suc (emax f)))))
-    (mul-lt-mul-of-pos-right (from-fits f false m e t) (pow-pos (low f))))) in
+    let bound = below-end f false (suc m) e x t (z .3) in
     let root = whole-root (size n) n (lt-of-lt-of-le (size-lt n) (two-four (size n))) in
-    subst (λ (y : ℕ). Nearest f (fin false (suc m) e) (roundRoot f y)) (sym is)
-    (subst (λ (y : Float). Nearest f (fin false (suc m) e) y) (sym (round-is f n))
-    (core-nearest f (fin false (suc m) e) (z .0) (z .1) (wholeRoot (size n) n) (refl, z .3) some (z .2) bound root))
+    subst (λ (y : ℕ). Nearer f (fin false (suc m) e) (roundRoot f y)) (sym is)
+    (subst (λ (y : Float). Nearer f (fin false (suc m) e) y) (sym (round-is f n))
+    (core-nearer f (fin false (suc m) e) (z .0) (z .1) (wholeRoot (size n) n) (refl, z .3) some (z .2) bound root))
 
 pub sqrtOf-is : (f : Format) (x : Float) → T (fits f x) → IsSquareRoot f x (sqrtOf f x)
 unfolding IsSquareRoot sqrtOf
@@ -356,62 +324,9 @@ sqrtOf-is f (inf false) t = refl
 sqrtOf-is f (fin true zero e) t = refl
 sqrtOf-is f (fin true (suc m) e) t = refl
 sqrtOf-is f (fin false zero e) t = refl
-sqrtOf-is f (fin false (suc m) e) t = positive-root f m e t
+sqrtOf-is f (fin false (suc m) e) t = is-nearest f (fin false (suc m) e) (roundRoot f (suc m * up e * 2 ^ (low f + low f) / down e)) (positive-root f m e t)
 
 -- ---- and there is one only
--- two values above zero that fit and are the same fraction are the same value: they have the same bit pattern
-bits-is : (f : Format) (s : Bool) (m : ℕ) (e : ℤ) (n : ℕ) → m * up e * 2 ^ low f / down e ≡ n → toBits f (fin s m e) ≡ cond s (top f) 0 + (size n - prec f) * hid f + n / 2 ^ (size n - prec f)
-unfolding toBits
-bits-is f s m e n p = ap (λ (x : ℕ). cond s (top f) 0 + (size x - prec f) * hid f + x / 2 ^ (size x - prec f)) p
-
-same-value : (f : Format) (m : ℕ) (e : ℤ) (n : ℕ) (d : ℤ) → T (fits f (fin false m e)) → T (fits f (fin false n d)) → m * up e * down d ≡ n * up d * down e → fin false m e ≡ fin false n d
-same-value f m e n d t u h =
-    let l = 2 ^ low f in
-    let c = n * up d * l / down d in
-    let g : m * up e * l / down e ≡ c = div-same (m * up e * l) (down e) (n * up d * l) (down d) (down-pos e) (down-pos d) (mul-right-comm (m * up e) l (down d) ∙ ap (λ (x : ℕ). x * l) h ∙ mul-right-comm (n * up d) (down e) l) in
-    sym (ofBits-toBits f (fin false m e) t) ∙ ap (ofBits f) (bits-is f false m e c g ∙ sym (bits-is f false n d c refl)) ∙ ofBits-toBits f (fin false n d) u
-
-data Order (a b : ℕ) : Type 0 where
-  less : a < b → Order a b
-  same : a ≡ b → Order a b
-  more : b < a → Order a b
-
-order : (a b : ℕ) → Order a b
-order a b = go (compare a b) (cmp a b)
-  where
-    go : (o : Ordering) → Cmp o a b → Order a b
-    go Ordering·lt h = less h
-    go Ordering·eq h = same h
-    go Ordering·gt h = more h
-
--- of two values the lower is not both nearer and farther
-apart : (f : Format) (x : Float) (m : ℕ) (e : ℤ) (n : ℕ) (d : ℤ) → Nearest f x (fin false m e) → Nearest f x (fin false n d) → m * up e * down d < n * up d * down e → ⊥
-apart f x m e n d p q h =
-    let a = p .from-above (fin false n d) (q .held) tt (unfold lt in lt→ltb (m * up e * down d) (n * up d * down e) h) in
-    let b = q .from-below (fin false m e) (p .held) tt (unfold lt in lt→ltb (m * up e * down d) (n * up d * down e) h) in
-    let s : n * up d * down e + m * up e * down d ≡ m * up e * down d + n * up d * down e = add-comm (n * up d * down e) (m * up e * down d) in
-    let c : down d * down e ≡ down e * down d = mul-comm (down d) (down e) in
-    clash (4 * num x * (down e * down d * (down e * down d))) ((m * up e * down d + n * up d * down e) * (m * up e * down d + n * up d * down e) * den x) a
-    (subst (λ (y : ℕ). y * y * den x < 4 * num x * (down e * down d * (down e * down d))) s
-    (subst (λ (y : ℕ). (n * up d * down e + m * up e * down d) * (n * up d * down e + m * up e * down d) * den x < 4 * num x * (y * y)) c b))
-  where
-    clash : (a b : ℕ) → a < b → b < a → ⊥
-    clash a b h l = omega arith
-
-nearest-unique : (f : Format) (x r s : Float) → Nearest f x r → Nearest f x s → r ≡ s
-nearest-unique f x nan s p q = absurd (p .above-zero)
-nearest-unique f x (inf b) s p q = absurd (p .above-zero)
-nearest-unique f x (fin true m e) s p q = absurd (p .above-zero)
-nearest-unique f x (fin false m e) nan p q = absurd (q .above-zero)
-nearest-unique f x (fin false m e) (inf b) p q = absurd (q .above-zero)
-nearest-unique f x (fin false m e) (fin true n d) p q = absurd (q .above-zero)
-nearest-unique f x (fin false m e) (fin false n d) p q = go (order (m * up e * down d) (n * up d * down e))
-  where
-    go : Order (m * up e * down d) (n * up d * down e) → fin false m e ≡ fin false n d
-    go (less h) = absurd (apart f x m e n d p q h)
-    go (same h) = same-value f m e n d (p .held) (q .held) h
-    go (more h) = absurd (apart f x n d m e q p h)
-
 pub unique : (f : Format) (x r s : Float) → IsSquareRoot f x r → IsSquareRoot f x s → r ≡ s
 unfolding IsSquareRoot
 unique f nan r s p q = p ∙ sym q
@@ -425,3 +340,16 @@ unique f (fin false (suc m) e) r s p q = nearest-unique f (fin false (suc m) e) 
 -- so what meets `IsSquareRoot` is what `sqrtOf` computes
 pub computes : (f : Format) (x r : Float) → T (fits f x) → IsSquareRoot f x r → r ≡ sqrtOf f x
 computes f x r t p = unique f x r (sqrtOf f x) p (sqrtOf-is f x t)
+
+-- and of an x of the format no other value is equally near to its root
+pub untied : (f : Format) (x r y : Float) → T (fits f x) → T (positive x) → IsSquareRoot f x r → T (fits f y) → T (finite y) → (y ≡ r → ⊥) → Tie x r y → ⊥
+unfolding IsSquareRoot
+untied f nan r y t p w = absurd p
+untied f (inf s) r y t p w = absurd p
+untied f (fin true m e) r y t p w = absurd p
+untied f (fin false zero e) r y t p w = absurd p
+untied f (fin false (suc m) e) r y t p w =
+    let x = fin false (suc m) e in
+    let n = suc m * up e * 2 ^ (low f + low f) / down e in
+    let near = positive-root f m e t in
+    alone f x r (subst (λ (z : Float). Nearer f x z) (nearest-unique f x (roundRoot f n) r (is-nearest f x (roundRoot f n) near) w) near) y

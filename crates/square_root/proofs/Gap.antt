@@ -3,15 +3,15 @@
 use mathlib.Core.Path.{_≡_, sym, ap, _∙_, subst}
 use mathlib.Core.Logic.{_⊎_, inl, inr}
 use Prim.Native.Nat.{ℕ, suc, _+_, _-_, _*_, _^_, _≤_, _<_, zero-le}
-use native.Mathlib.Nat.{mul-comm, mul-assoc, suc-mul, mul-mul-mul-comm, mul-le-mul-right, mul-lt-mul-of-pos-right, lt-of-mul-lt-mul-right, le-trans, le-of-eq, le-of-lt, lt-of-lt-of-le, lt-of-le-of-lt, lt-of-not-le, not-le-of-lt, eq-or-lt-of-le}
+use native.Mathlib.Nat.{mul-assoc, suc-mul, mul-mul-mul-comm, mul-le-mul-right, lt-of-mul-lt-mul-right, le-trans, le-of-eq, le-of-lt, lt-of-lt-of-le, lt-of-le-of-lt, lt-of-not-le, not-le-of-lt, eq-or-lt-of-le}
 use native.Mathlib.Decide.{decLe}
 use native.Mathlib.Omega.{arith}
 use lib.Pow.{pow-add, pow-mono, shl-lt}
 use lib.Ieee.Digits.{back}
-use Rattle.square_root.proofs.Karatsuba.{squares}
+use Rattle.square_root.proofs.Karatsuba.{squares, squares-lt}
 
 -- q * 2 ^ j is a multiple of 2 ^ k, or it has too few digits to reach p + k + 1 of them
-place : (p q j k : ℕ) → q < 2 ^ suc p → ((t : ℕ) × (q * 2 ^ j ≡ t * 2 ^ k)) ⊎ ((0 < k) × (q * 2 ^ j < 2 ^ p * 2 ^ k))
+pub place : (p q j k : ℕ) → q < 2 ^ suc p → ((t : ℕ) × (q * 2 ^ j ≡ t * 2 ^ k)) ⊎ ((0 < k) × (q * 2 ^ j < 2 ^ p * 2 ^ k))
 place p q j k h = go (decLe k j)
   where
     room : (p j k : ℕ) → j < k → suc p + j ≤ p + k
@@ -34,14 +34,15 @@ pub record Nearby (p n k r : ℕ) : Type 0 where
   pub low : (2 * r - 1) * 2 ^ k * ((2 * r - 1) * 2 ^ k) < 4 * n
   pub high : 4 * n < (2 * r + 1) * 2 ^ k * ((2 * r + 1) * 2 ^ k)
 
-module _ (p n k r : ℕ) (w : Nearby p n k r) (q j : ℕ) (small : q < 2 ^ suc p) where
-  gap-up : r * 2 ^ k < q * 2 ^ j → r * 2 ^ k + 2 ^ k ≤ q * 2 ^ j
-  gap-up h = go (place p q j k small)
-    where
-      go : ((t : ℕ) × (q * 2 ^ j ≡ t * 2 ^ k)) ⊎ ((0 < k) × (q * 2 ^ j < 2 ^ p * 2 ^ k)) → r * 2 ^ k + 2 ^ k ≤ q * 2 ^ j
-      go (inl z) = subst (λ (x : ℕ). r * 2 ^ k + 2 ^ k ≤ x) (sym (z .1)) (step r (z .0) (2 ^ k) (subst (λ (x : ℕ). r * 2 ^ k < x) (z .1) h))
-      go (inr z) = absurd (not-le-of-lt (lt-of-lt-of-le (z .1) (mul-le-mul-right (2 ^ k) (w .lead (z .0)))) (le-of-lt h))
+-- above r * 2 ^ k, where r has p + 1 digits or k is 0
+pub gap-up : (p k r q j : ℕ) → (0 < k → 2 ^ p ≤ r) → q < 2 ^ suc p → r * 2 ^ k < q * 2 ^ j → r * 2 ^ k + 2 ^ k ≤ q * 2 ^ j
+gap-up p k r q j lead small h = go (place p q j k small)
+  where
+    go : ((t : ℕ) × (q * 2 ^ j ≡ t * 2 ^ k)) ⊎ ((0 < k) × (q * 2 ^ j < 2 ^ p * 2 ^ k)) → r * 2 ^ k + 2 ^ k ≤ q * 2 ^ j
+    go (inl z) = subst (λ (x : ℕ). r * 2 ^ k + 2 ^ k ≤ x) (sym (z .1)) (step r (z .0) (2 ^ k) (subst (λ (x : ℕ). r * 2 ^ k < x) (z .1) h))
+    go (inr z) = absurd (not-le-of-lt (lt-of-lt-of-le (z .1) (mul-le-mul-right (2 ^ k) (lead (z .0)))) (le-of-lt h))
 
+module _ (p n k r : ℕ) (w : Nearby p n k r) (q j : ℕ) (small : q < 2 ^ suc p) where
   -- one step down, or the root itself is at least r * 2 ^ k
   gap-down : q * 2 ^ j < r * 2 ^ k → (q * 2 ^ j + 2 ^ k ≤ r * 2 ^ k) ⊎ (r * 2 ^ k * (r * 2 ^ k) ≤ n)
   gap-down h = go (place p q j k small)
@@ -76,7 +77,7 @@ module _ (p n k r : ℕ) (w : Nearby p n k r) (q j : ℕ) (small : q < 2 ^ suc p
 
   -- the root of n lies on r * 2 ^ k's side of the mean of the two
   pub mean-above : r * 2 ^ k < q * 2 ^ j → 4 * n < (r * 2 ^ k + q * 2 ^ j) * (r * 2 ^ k + q * 2 ^ j)
-  mean-above h = lt-of-lt-of-le (w .high) (squares (le-trans (le-of-eq wide-up) (far (r * 2 ^ k) (2 ^ k) (q * 2 ^ j) (gap-up h))))
+  mean-above h = lt-of-lt-of-le (w .high) (squares (le-trans (le-of-eq wide-up) (far (r * 2 ^ k) (2 ^ k) (q * 2 ^ j) (gap-up p k r q j (w .lead) small h))))
     where
       far : (a c y : ℕ) → a + c ≤ y → a + a + c ≤ a + y
       far a c y h = omega arith
@@ -84,7 +85,7 @@ module _ (p n k r : ℕ) (w : Nearby p n k r) (q j : ℕ) (small : q < 2 ^ suc p
   pub mean-below : q * 2 ^ j < r * 2 ^ k → (r * 2 ^ k + q * 2 ^ j) * (r * 2 ^ k + q * 2 ^ j) < 4 * n
   mean-below h = elim (gap-down h) [
     | inl g ↦ lt-of-le-of-lt (squares (far (r * 2 ^ k) (2 ^ k) (q * 2 ^ j) ((2 * r - 1) * 2 ^ k) wide-down g)) (w .low)
-    | inr g ↦ let a = r * 2 ^ k in lt-of-lt-of-le (strict (a + q * 2 ^ j) (2 * a) (under a (q * 2 ^ j) h)) (le-trans (le-of-eq (mul-mul-mul-comm 2 a 2 a)) (four (a * a) n g))
+    | inr g ↦ let a = r * 2 ^ k in lt-of-lt-of-le (squares-lt (under a (q * 2 ^ j) h)) (le-trans (le-of-eq (mul-mul-mul-comm 2 a 2 a)) (four (a * a) n g))
   ]
     where
       far : (a c y z : ℕ) → z + c ≡ a + a → y + c ≤ a → a + y ≤ z
@@ -92,12 +93,6 @@ module _ (p n k r : ℕ) (w : Nearby p n k r) (q j : ℕ) (small : q < 2 ^ suc p
 
       under : (a y : ℕ) → y < a → a + y < 2 * a
       under a y h = omega arith
-
-      strict : (x y : ℕ) → x < y → x * x < y * y
-      strict x y l = lt-of-le-of-lt (squares-le x y (le-of-lt l)) (mul-lt-mul-of-pos-right l (lt-of-le-of-lt zero-le l))
-        where
-          squares-le : (x y : ℕ) → x ≤ y → x * x ≤ x * y
-          squares-le x y g = le-trans (mul-le-mul-right x g) (le-of-eq (mul-comm y x))
 
       four : (s n : ℕ) → s ≤ n → 2 * 2 * s ≤ 4 * n
       four s n h = omega arith

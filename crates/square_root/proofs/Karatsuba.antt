@@ -1,8 +1,8 @@
 -- A root's lower half of digits from its upper half, after Zimmermann. n is s * s + r, with s the whole part of its root; b is the base, and s has its leading digit set: b ≤ 2 * s.
 -- With r * b ≡ q * (2 * s) + u and u < 2 * s, the whole part of the root of n * (b * b) is s * b + q, or one less where u * b < q * q. Assumes nothing.
 use mathlib.Core.Path.{_≡_, refl, sym, ap, _∙_, subst}
-use Prim.Native.Nat.{ℕ, _+_, _-_, _*_, _≤_, _<_}
-use native.Mathlib.Nat.{add-comm, add-assoc, add-left-comm, two-mul, mul-one, mul-comm, mul-assoc, mul-left-comm, mul-add, add-mul, mul-le-mul, mul-le-mul-right, le-of-mul-le-mul-right, mul-lt-mul-of-pos-right, le-trans, le-of-eq}
+use Prim.Native.Nat.{ℕ, _+_, _-_, _*_, _≤_, _<_, zero-le}
+use native.Mathlib.Nat.{add-comm, add-assoc, add-left-comm, two-mul, mul-one, mul-comm, mul-assoc, mul-left-comm, mul-add, add-mul, mul-le-mul, mul-le-mul-right, le-of-mul-le-mul-right, mul-lt-mul-of-pos-right, le-trans, le-of-eq, le-of-lt, lt-of-le-of-lt}
 use native.Mathlib.Omega.{arith}
 use Rattle.square_root.specs.Steps.{Root}
 
@@ -15,6 +15,9 @@ next x q = mul-add x q 1 ∙ ap (λ (k : ℕ). x * q + k) (mul-one x)
 -- a product of two numbers grows with each
 pub squares : {a b : ℕ} → a ≤ b → a * a ≤ b * b
 squares h = mul-le-mul h h
+
+pub squares-lt : {a b : ℕ} → a < b → a * a < b * b
+squares-lt {a} {b} h = lt-of-le-of-lt (le-trans (mul-le-mul-right a (le-of-lt h)) (le-of-eq (mul-comm b a))) (mul-lt-mul-of-pos-right h (lt-of-le-of-lt zero-le h))
 
 -- n * (b * b), written over s, q, u and b
 whole : (s b q u r n : ℕ) → s * s + r ≡ n → r * b ≡ q * (2 * s) + u → n * (b * b) ≡ s * b * (s * b) + 2 * (s * b * q) + u * b

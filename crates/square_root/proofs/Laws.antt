@@ -1,14 +1,12 @@
 -- What callers may cite of `squareRoot`: it is IEEE 754's, it is fixed by that, and no tie can occur. Assumes nothing.
-use mathlib.Core.Path.{_≡_, subst}
-use Prim.Native.Nat.{ℕ, _*_, _<_}
-use native.Mathlib.Nat.{lt-irrefl}
+use mathlib.Core.Path.{_≡_}
 use lib.Dec.{T}
-use lib.Ieee.{Float, Format, binary64, fits, lt}
+use lib.Ieee.{Float, Format, binary64, fits}
 use lib.Ieee.Scale.{finite}
-use lib.Ieee.Positive.{num, den}
-use Rattle.square_root.specs.SquareRoot.{IsSquareRoot, Nearest, total}
+use lib.Ieee.Positive.{positive}
+use Rattle.square_root.specs.SquareRoot.{IsSquareRoot, Tie}
 use Rattle.square_root.specs.Computed.{squareRoot}
-use Rattle.square_root.proofs.Computed.{sqrtOf-is, unique}
+use Rattle.square_root.proofs.Computed.{sqrtOf-is, unique, untied}
 
 -- the root of every value of the format is IEEE 754's
 pub squareRoot-is : (x : Float) → T (fits binary64 x) → IsSquareRoot binary64 x (squareRoot x)
@@ -23,13 +21,7 @@ squareRoot-only x r h p = unique binary64 x r (squareRoot x) p (squareRoot-is x 
 pub root-unique : (f : Format) (x r s : Float) → IsSquareRoot f x r → IsSquareRoot f x s → r ≡ s
 root-unique = unique
 
--- the mean of the root r and another finite value y of the format is never √x itself
-module _ (f : Format) (x r y : Float) (n : Nearest f x r) (h : T (fits f y)) (g : T (finite y)) where
-  abbrev Tie : Type 0
-  Tie = total r y * total r y * den x ≡ 4 * num x * (den r * den y * (den r * den y))
-
-  pub no-tie-below : T (lt y r) → Tie → ⊥
-  no-tie-below l e = lt-irrefl _ (subst (λ (z : ℕ). z < 4 * num x * (den r * den y * (den r * den y))) e (n .from-below y h g l))
-
-  pub no-tie-above : T (lt r y) → Tie → ⊥
-  no-tie-above l e = lt-irrefl _ (subst (λ (z : ℕ). 4 * num x * (den r * den y * (den r * den y)) < z) e (n .from-above y h g l))
+-- Of an x of the format that is finite and above zero, no other finite value of the format is as near to √x as its root, so the rule for ties has nothing to decide.
+-- (Of an x with more digits than the format's there may be two; `root-unique` holds there by that rule.)
+pub no-tie : (f : Format) (x r y : Float) → T (fits f x) → T (positive x) → IsSquareRoot f x r → T (fits f y) → T (finite y) → (y ≡ r → ⊥) → Tie x r y → ⊥
+no-tie = untied

@@ -17,7 +17,8 @@ use lib.Ieee.Positive.{positive, positive-of-value}
 use Rattle.square_root.specs.SquareRoot.{IsSquareRoot, Nearest}
 use Rattle.square_root.specs.Steps.{RootBits, unitsOf}
 use Rattle.square_root.proofs.Gap.{Nearby}
-use Rattle.square_root.proofs.Values.{nearest}
+use Rattle.square_root.proofs.Values.{nearer}
+use Rattle.square_root.proofs.Ties.{is-nearest}
 
 -- ---- reading a pattern with its sign clear
 ofBits-is : (b : ℕ) → ofBits binary64 b ≡ ofFields binary64 (leb (2 ^ 63) b) (b % 2 ^ 63 / 2 ^ 52) (b % 2 ^ 52)
@@ -136,7 +137,8 @@ pub main : (b r : ℕ) → 0 < b → b < 0x7ff0_0000_0000_0000 → RootBits (uni
 main b r some h w =
     let n = unitsOf b * 2 ^ 1074 in
     positive-root (ofBits binary64 b) (ofBits binary64 r) (positive-of-value (ofBits binary64 b) (unitsOf b) (2 ^ 1074) (bits-value b h) (units-pos b some))
-    (nearest binary64 (ofBits binary64 b) (ofBits binary64 r) (unitsOf b) (w .k) (w .q) (bits-value b h) (root-value n r w) (nearby n r w) (ofBits-fits binary64 r))
+    (is-nearest binary64 (ofBits binary64 b) (ofBits binary64 r)
+    (nearer binary64 (ofBits binary64 b) (ofBits binary64 r) (unitsOf b) (w .k) (w .q) (bits-value b h) (root-value n r w) (nearby n r w) (ofBits-fits binary64 r)))
 
 -- ---- the other patterns
 pub at-nan : IsSquareRoot binary64 nan nan

@@ -1,4 +1,4 @@
--- From numbers to values: where the root of x, in units of the format's smallest value, is rounded to r (`Nearby`), r is `Nearest` to √x among the format's values. Assumes nothing.
+-- From numbers to values: where the root of x, in units of the format's smallest value, is rounded to r (`Nearby`), r is nearer to √x than every other value of the format (`Nearer`). Assumes nothing.
 use mathlib.Core.Path.{_≡_, refl, sym, ap, _∙_, subst}
 use Prim.Native.Nat.{ℕ, zero, suc, _+_, _-_, _*_, _%_, _^_, _≤_, _<_}
 use native.Mathlib.Nat.{zero-mul, mul-one, add-mul, mul-comm, mul-assoc, mul-left-comm, mul-right-comm, mul-le-mul, mul-le-mul-right, mul-lt-mul-of-pos-right, lt-of-mul-lt-mul-right, mul-pos, le-of-eq, lt-of-lt-of-le, lt-of-le-of-lt, lt-of-not-le, le-of-suc-le-suc, lt-irrefl}
@@ -13,7 +13,7 @@ use lib.Ieee.Fits.{and-l, and-r, two, two-le-pos, down-pos}
 use lib.Ieee.Exact.{HasValue}
 use lib.Ieee.Scale.{finite}
 use lib.Ieee.Positive.{num, den, den-pos, positive, value→cross, positive-of-value}
-use Rattle.square_root.specs.SquareRoot.{MeanBelow, MeanAbove, Nearest}
+use Rattle.square_root.specs.SquareRoot.{sumSquared, fourTimes}
 use Rattle.square_root.proofs.Gap.{Nearby, mean-above, mean-below}
 
 -- ---- a value that fits is q * 2 ^ j units, with q of no more digits than the format keeps
@@ -60,16 +60,16 @@ not-under (fin true m e) n d p h = p
 not-under (fin false m e) n d p h = h
 
 -- ---- from units to fractions: t / c is z units, and n / d is x units, a unit being 1 / v
+pub squared : (t z c d v : ℕ) → t * v ≡ z * c → t * t * d * (v * v) ≡ z * z * (c * c * d)
+squared t z c d v e = one ∙ (λ i. e i * e i * d) ∙ three
+  where
+    one : t * t * d * (v * v) ≡ t * v * (t * v) * d
+    one = simp (mul-assoc, mul-comm, mul-left-comm) refl
+
+    three : z * c * (z * c) * d ≡ z * z * (c * c * d)
+    three = simp (mul-assoc, mul-comm, mul-left-comm) refl
+
 module _ (t z c n x d v : ℕ) (vp : 0 < v) (C : 0 < c) (D : 0 < d) (et : t * v ≡ z * c) (en : n * v ≡ x * d) where
-  left : t * t * d * (v * v) ≡ z * z * (c * c * d)
-  left = one ∙ (λ i. et i * et i * d) ∙ three
-    where
-      one : t * t * d * (v * v) ≡ t * v * (t * v) * d
-      one = simp (mul-assoc, mul-comm, mul-left-comm) refl
-
-      three : z * c * (z * c) * d ≡ z * z * (c * c * d)
-      three = simp (mul-assoc, mul-comm, mul-left-comm) refl
-
   right : 4 * n * (c * c) * (v * v) ≡ 4 * (x * v) * (c * c * d)
   right = one ∙ ap (λ (y : ℕ). 4 * (y * v) * (c * c)) en ∙ three
     where
@@ -80,21 +80,40 @@ module _ (t z c n x d v : ℕ) (vp : 0 < v) (C : 0 < c) (D : 0 < d) (et : t * v 
       three = simp (mul-assoc, mul-comm, mul-left-comm) refl
 
   scale-below : z * z < 4 * (x * v) → t * t * d < 4 * n * (c * c)
-  scale-below h = lt-of-mul-lt-mul-right (v * v) (lt-of-le-of-lt (le-of-eq left) (lt-of-lt-of-le (mul-lt-mul-of-pos-right h (mul-pos (mul-pos C C) D)) (le-of-eq (sym right))))
+  scale-below h = lt-of-mul-lt-mul-right (v * v) (lt-of-le-of-lt (le-of-eq (squared t z c d v et)) (lt-of-lt-of-le (mul-lt-mul-of-pos-right h (mul-pos (mul-pos C C) D)) (le-of-eq (sym right))))
 
   scale-above : 4 * (x * v) < z * z → 4 * n * (c * c) < t * t * d
-  scale-above h = lt-of-mul-lt-mul-right (v * v) (lt-of-le-of-lt (le-of-eq right) (lt-of-lt-of-le (mul-lt-mul-of-pos-right h (mul-pos (mul-pos C C) D)) (le-of-eq (sym left))))
+  scale-above h = lt-of-mul-lt-mul-right (v * v) (lt-of-le-of-lt (le-of-eq right) (lt-of-lt-of-le (mul-lt-mul-of-pos-right h (mul-pos (mul-pos C C) D)) (le-of-eq (sym (squared t z c d v et)))))
 
 -- a / b is y units: so a * c / (b * c) is too
 widen : (a b c v y : ℕ) → a * v ≡ y * b → a * c * v ≡ y * (b * c)
 widen a b c v y e = mul-right-comm a c v ∙ ap (λ (x : ℕ). x * c) e ∙ mul-assoc y b c
 
--- the order of two fractions is that of their numbers of units
-units-lt : (a b a′ b′ v y y′ : ℕ) → 0 < v → a * v ≡ y * b → a′ * v ≡ y′ * b′ → a * b′ < a′ * b → y < y′
+-- the sum of two fractions, and their order, is that of their numbers of units
+pub sum-units : (a b a′ b′ v y y′ : ℕ) → a * v ≡ y * b → a′ * v ≡ y′ * b′ → (a * b′ + a′ * b) * v ≡ (y + y′) * (b * b′)
+sum-units a b a′ b′ v y y′ e e′ =
+    add-mul (a * b′) (a′ * b) v
+    ∙ (λ i. widen a b b′ v y e i + (widen a′ b′ b v y′ e′ ∙ ap (λ (z : ℕ). y′ * z) (mul-comm b′ b)) i)
+    ∙ sym (add-mul y y′ (b * b′))
+
+pub lt-of-units : (a b a′ b′ v y y′ : ℕ) → 0 < b → 0 < b′ → a * v ≡ y * b → a′ * v ≡ y′ * b′ → y < y′ → a * b′ < a′ * b
+lt-of-units a b a′ b′ v y y′ B B′ e e′ h =
+    lt-of-mul-lt-mul-right v
+    (lt-of-le-of-lt (le-of-eq (widen a b b′ v y e))
+    (lt-of-lt-of-le (mul-lt-mul-of-pos-right h (mul-pos B B′)) (le-of-eq (sym (widen a′ b′ b v y′ e′ ∙ ap (λ (x : ℕ). y′ * x) (mul-comm b′ b))))))
+
+pub units-lt : (a b a′ b′ v y y′ : ℕ) → 0 < v → a * v ≡ y * b → a′ * v ≡ y′ * b′ → a * b′ < a′ * b → y < y′
 units-lt a b a′ b′ v y y′ vp e e′ h =
     lt-of-mul-lt-mul-right (b * b′)
     (lt-of-le-of-lt (le-of-eq (sym (widen a b b′ v y e)))
     (lt-of-lt-of-le (mul-lt-mul-of-pos-right h vp) (le-of-eq (widen a′ b′ b v y′ e′ ∙ ap (λ (x : ℕ). y′ * x) (mul-comm b′ b)))))
+
+-- r is nearer to √x than every other finite value of the format
+pub record Nearer (f : Format) (x r : Float) : Type 0 where
+  pub held : T (fits f r)
+  pub above-zero : T (positive r)
+  pub from-below : (y : Float) → T (fits f y) → T (finite y) → T (lt y r) → sumSquared x r y < fourTimes x r y
+  pub from-above : (y : Float) → T (fits f y) → T (finite y) → T (lt r y) → fourTimes x r y < sumSquared x r y
 
 -- ---- the law
 module _ (f : Format) (x r : Float) (n k q : ℕ) (vx : HasValue x false n (2 ^ low f)) (vr : HasValue r false (q * 2 ^ k) (2 ^ low f)) (w : Nearby (prec f - 1) (n * 2 ^ low f) k q) where
@@ -110,22 +129,14 @@ module _ (f : Format) (x r : Float) (n k q : ℕ) (vx : HasValue x false n (2 ^ 
       suc-pred : (p : ℕ) → 0 < p → suc (p - 1) ≡ p
       suc-pred p h = omega arith
 
-  -- the sum of r and a y that is not negative, in units
-  sum-is : (m : ℕ) (d : ℤ) (y : ℕ) → m * up d * 2 ^ low f ≡ y * down d → (num r * down d + m * up d * den r) * 2 ^ low f ≡ (q * 2 ^ k + y) * (den r * down d)
-  sum-is m d y e =
-      add-mul (num r * down d) (m * up d * den r) (2 ^ low f)
-      ∙ (λ i. widen (num r) (den r) (down d) (2 ^ low f) (q * 2 ^ k) (value→cross r (q * 2 ^ k) (2 ^ low f) vr) i
-      + (widen (m * up d) (down d) (den r) (2 ^ low f) y e ∙ ap (λ (z : ℕ). y * z) (mul-comm (down d) (den r))) i)
-      ∙ sym (add-mul (q * 2 ^ k) y (den r * down d))
-
   below-from : (m : ℕ) (d : ℤ) (p j : ℕ) → p < 2 ^ prec f → m * up d * 2 ^ low f ≡ p * 2 ^ j * down d → p * 2 ^ j < q * 2 ^ k
       → (num r * down d + m * up d * den r) * (num r * down d + m * up d * den r) * den x < 4 * num x * (den r * down d * (den r * down d))
   below-from m d p j small e h =
       scale-below (num r * down d + m * up d * den r) (q * 2 ^ k + p * 2 ^ j) (den r * down d) (num x) n (den x) (2 ^ low f) vp (mul-pos (den-pos r) (down-pos d)) (den-pos x)
-      (sum-is m d (p * 2 ^ j) e) (value→cross x n (2 ^ low f) vx)
+      (sum-units (num r) (den r) (m * up d) (down d) (2 ^ low f) (q * 2 ^ k) (p * 2 ^ j) (value→cross r (q * 2 ^ k) (2 ^ low f) vr) e) (value→cross x n (2 ^ low f) vx)
       (mean-below (prec f - 1) (n * 2 ^ low f) k q w p j (digits-of p small) h)
 
-  from-below : (y : Float) → T (fits f y) → T (finite y) → T (lt y r) → MeanBelow x r y
+  from-below : (y : Float) → T (fits f y) → T (finite y) → T (lt y r) → sumSquared x r y < fourTimes x r y
   from-below nan fy g h = absurd g
   from-below (inf s) fy g h = absurd g
   from-below (fin false m d) fy g h =
@@ -142,16 +153,16 @@ module _ (f : Format) (x r : Float) (n k q : ℕ) (vx : HasValue x false n (2 ^ 
       under : (b c e : ℕ) → b - c ≤ b + e
       under b c e = omega arith
 
-  from-above : (y : Float) → T (fits f y) → T (finite y) → T (lt r y) → MeanAbove x r y
+  from-above : (y : Float) → T (fits f y) → T (finite y) → T (lt r y) → fourTimes x r y < sumSquared x r y
   from-above nan fy g h = absurd g
   from-above (inf s) fy g h = absurd g
   from-above (fin true m d) fy g h = absurd (not-under r m d above h)
   from-above (fin false m d) fy g h =
       let z = on-grid f false m d fy in
       scale-above (num r * down d + m * up d * den r) (q * 2 ^ k + z .0 * 2 ^ z .1) (den r * down d) (num x) n (den x) (2 ^ low f) vp (mul-pos (den-pos r) (down-pos d)) (den-pos x)
-      (sum-is m d (z .0 * 2 ^ z .1) (z .3)) (value→cross x n (2 ^ low f) vx)
+      (sum-units (num r) (den r) (m * up d) (down d) (2 ^ low f) (q * 2 ^ k) (z .0 * 2 ^ z .1) (value→cross r (q * 2 ^ k) (2 ^ low f) vr) (z .3)) (value→cross x n (2 ^ low f) vx)
       (mean-above (prec f - 1) (n * 2 ^ low f) k q w (z .0) (z .1) (digits-of (z .0) (z .2))
       (units-lt (num r) (den r) (m * up d) (down d) (2 ^ low f) (q * 2 ^ k) (z .0 * 2 ^ z .1) vp (value→cross r (q * 2 ^ k) (2 ^ low f) vr) (z .3) (lt-right r m d above h)))
 
-  pub nearest : T (fits f r) → Nearest f x r
-  nearest h = record { held = h; above-zero = above; from-below = from-below; from-above = from-above }
+  pub nearer : T (fits f r) → Nearer f x r
+  nearer h = record { held = h; above-zero = above; from-below = from-below; from-above = from-above }

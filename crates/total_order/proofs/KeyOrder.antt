@@ -1,9 +1,9 @@
 -- Signed comparison of keys is IEEE 754's totalOrder, for all 2 ^ 64 patterns. Assumes nothing.
 -- Two numbers are compared in units of the least positive one, 2 ^ -1074, in which a size's order is that of its pattern.
 use mathlib.Core.Path.{_≡_, refl, sym, ap, _∙_, subst}
-use mathlib.Core.Logic.{_⊎_, ⊎-elim}
+use mathlib.Core.Logic.{⊎-elim}
 use mathlib.Core.Bool.{Bool, true, false, not, _&&_, _||_, cond}
-use Prim.Native.Nat.{ℕ, zero, suc, _+_, _-_, _*_, _/_, _%_, _^_, _≤_, _<_}
+use Prim.Native.Nat.{ℕ, zero, suc, _+_, _*_, _/_, _%_, _^_, _≤_, _<_}
 use native.Mathlib.Nat.{mul-lt-mul-of-pos-right, mul-le-mul-right, mul-le-mul-left, mul-pos, mul-assoc, mul-comm, mul-right-comm, add-mul, zero-mul, le-trans, le-refl, le-of-lt, lt-of-lt-of-le, eq-or-lt-of-le, le-of-suc-le-suc, pow-succ'}
 use native.Mathlib.Omega.{arith}
 use lib.Dec.{ltb, leb}

@@ -3,7 +3,7 @@ use mathlib.Core.Path.{_≡_, refl, sym, ap, _∙_, subst}
 use Prim.Native.Nat.{ℕ, _^_, _<_}
 use native.Mathlib.Omega.{arith}
 use lib.Dec.{T}
-use lib.Ieee.{Float, nan, binary64, fits, ofBits, toBits, div}
+use lib.Ieee.{Float, nan, binary64, fits, ofBits, toBits, neg, div}
 use lib.Ieee.Bits.{ofBits-toBits}
 use borrow.Author.Needs.{needs}
 use Rattle.square_root.specs.SquareRoot.{IsSquareRoot}
@@ -22,9 +22,11 @@ held c = subst T (sym (c .good .0 .1)) tt
 only : (c : tie.Start) {r : Float} → IsSquareRoot binary64 (c .args .x) r → r ≡ squareRoot (c .args .x)
 only c {r} p = squareRoot-only (c .args .x) r (held c) p
 
--- a value whose pattern is its own root's
-as-they-are : (x : Float) (b : ℕ) → T (fits binary64 x) → toBits binary64 x ≡ b → IsSquareRoot binary64 (ofBits binary64 b) (ofBits binary64 b) → IsSquareRoot binary64 x x
-as-they-are x b h e s = subst (λ (y : Float). IsSquareRoot binary64 y y) (ap (ofBits binary64) (sym e) ∙ ofBits-toBits binary64 x h) s
+-- where the argument has a pattern whose value is its own root, what the code returns has to have that pattern
+its-own : (c : tie.Start) {r : Float} (b : ℕ) → toBits binary64 (c .args .x) ≡ b → IsSquareRoot binary64 (ofBits binary64 b) (ofBits binary64 b) → T (fits binary64 r) → toBits binary64 r ≡ b → r ≡ squareRoot (c .args .x)
+its-own c {r} b e w h g =
+    let value : (y : Float) → T (fits binary64 y) → toBits binary64 y ≡ b → ofBits binary64 b ≡ y = λ y t k. ap (ofBits binary64) (sym k) ∙ ofBits-toBits binary64 y t in
+    sym (value r h g) ∙ only c (subst (λ (y : Float). IsSquareRoot binary64 y (ofBits binary64 b)) (value (c .args .x) (held c) e) w)
 
 zero-by-zero : div binary64 (ofBits binary64 0) (ofBits binary64 0) ≡ nan
 unfolding div ofBits
@@ -48,7 +50,7 @@ returns c = nan-is (c .before .args .x) (held (c .before)) (c .if1 .taken)
 returns-2 : tie.Need-returns-2
 returns-2 c =
     let s = c .before .before .before in
-    only s (as-they-are (s .args .x) (2 ^ 63) (held s) (c .if3 .taken) P.at-minus-zero)
+    its-own s (2 ^ 63) (c .if3 .taken) P.at-minus-zero (search (needs, held s)) (unfold toBits ofBits neg in omega arith)
 
 returns-3 : tie.Need-returns-3
 returns-3 c =
@@ -58,13 +60,13 @@ returns-3 c =
 returns-4 : tie.Need-returns-4
 returns-4 c =
     let s = c .before .before .before in
-    only s (as-they-are (s .args .x) 0 (held s) (c .if4 .taken) P.at-plus-zero)
+    its-own s 0 (c .if4 .taken) P.at-plus-zero (search (needs, held s)) (unfold toBits ofBits neg in omega arith)
 
 returns-5 : tie.Need-returns-5
 returns-5 c =
     let s = c .before .before .before .before in
     let b = toBits binary64 (s .args .x) in
-    only s (as-they-are (s .args .x) b (held s) refl (P.at-top b (c .if5 .taken) (c .before .before .if2 .left)))
+    its-own s b refl (P.at-top b (c .if5 .taken) (c .before .before .if2 .left)) (held s) refl
 
 returns-6 : tie.Need-returns-6
 returns-6 c =
