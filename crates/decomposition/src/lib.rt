@@ -9,6 +9,9 @@ ghost use Rattle.decomposition.specs.Axes.{DECOMPOSITION, numberAt, vect
 // How many patterns a decomposition is.
 pub const DECOMPOSITION: usize = 12;
 
+// The smallest gap between the two smallest eigenvalues for a defined normal. The fit and the plane of moments each have their own rule with it.
+pub const MIN_EIGEN_GAP: f64 = 1e-14;
+
 // The eigenvalues in rising order, and the vector of the first.
 pub struct Axes {
     pub first: f64,

@@ -1,6 +1,6 @@
 // Vectors of three and matrices of three by three, by value and by columns: each function gives the bits of the sums of products that `sums` defines.
 ghost use mathlib.Core.Path.{_≡_};
-ghost use Rattle.sums.specs.Sum.{dot, product, transpose, plus, outer, scaled};
+ghost use Rattle.sums.specs.Sum.{dot, product, transpose, plus, outer, scaled, divided};
 
 // a·b
 pub fn dot3(a: [f64; 3], b: [f64; 3]) -> f64
@@ -161,4 +161,11 @@ pub fn scaled3(v: [f64; 3], s: f64) -> [f64; 3]
     ensures { λ r. ⌜ r ≡ scaled 3 v s ⌝ }
 {
     [v[0] * s, v[1] * s, v[2] * s]
+}
+
+// v / s
+pub fn divided3(v: [f64; 3], s: f64) -> [f64; 3]
+    ensures { λ r. ⌜ r ≡ divided 3 v s ⌝ }
+{
+    [v[0] / s, v[1] / s, v[2] / s]
 }

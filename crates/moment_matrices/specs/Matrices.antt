@@ -8,10 +8,6 @@ use Rattle.lists.specs.Part.{_!_}
 abbrev pub half : Float
 half = ofBits binary64 0x3fe0_0000_0000_0000
 
--- sum_r / count
-abbrev pub meanOf : List Float → Float → List Float
-meanOf s n = tab 3 (λ r. div binary64 (s ! r) n)
-
 -- outer(r,c) / count - mean_r·mean_c
 abbrev pub spreadOf : List Float → List Float → Float → List Float
 spreadOf o u n = grid 3 3 (λ r c. sub binary64 (div binary64 (at 3 o r c) n) (u ! r ⊗ u ! c))

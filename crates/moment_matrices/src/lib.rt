@@ -1,13 +1,7 @@
-// What moments are made of, as arrays by value: the mean, the scatter about it, and the outer products of moved points.
+// What moments are made of, as arrays by value: the scatter about a mean, and the outer products of moved points.
 ghost use mathlib.Core.Path.{_≡_};
 ghost use Rattle.sums.specs.Sum.{scaled};
-ghost use Rattle.moment_matrices.specs.Matrices.{meanOf, spreadOf, symmetricOf, scatterOf, movedOuter};
-
-pub fn mean_of(s: [f64; 3], n: f64) -> [f64; 3]
-    ensures { λ r. ⌜ r ≡ meanOf s n ⌝ }
-{
-    [s[0] / n, s[1] / n, s[2] / n]
-}
+ghost use Rattle.moment_matrices.specs.Matrices.{spreadOf, symmetricOf, scatterOf, movedOuter};
 
 pub fn spread(o: [f64; 9], u: [f64; 3], n: f64) -> [f64; 9]
     ensures { λ r. ⌜ r ≡ spreadOf o u n ⌝ }

@@ -6,20 +6,17 @@ use Prim.Native.Nat.{ℕ}
 use lib.Ieee.{Float, nan, inf, fin, binary64, ofBits, sub, neg, lt}
 use Rattle.sums.specs.Sum.{_⊗_, dot}
 use Rattle.lists.specs.Part.{_!_}
-use Rattle.decomposition.specs.Axes.{risingOf}
+use Rattle.decomposition.specs.Axes.{MIN_EIGEN_GAP, risingOf}
 use Rattle.decomposition.specs.declared.Axes.{Axes}
 use Rattle.plane_fit.specs.declared.axis.Fit.{Fit}
 use Rattle.plane_fit.specs.declared.axis.Fit.the-variants.{Plane, NoPlane}
 
--- 1, -1 and 1e-14
+-- 1 and -1
 abbrev pub one : Float
 one = ofBits binary64 0x3ff0_0000_0000_0000
 
 abbrev pub minusOne : Float
 minusOne = neg one
-
-abbrev pub leastGap : Float
-leastGap = ofBits binary64 0x3d06_849b_86a1_2b9b
 
 -- |x|
 unfoldable pub absolute : Float → Float
@@ -36,7 +33,7 @@ unfoldable pub smallestAxis : List ℕ → List Float → Fit
 smallestAxis d mean =
     let a = risingOf d in
     let n = a .normal in
-    cond (lt (leastGap ⊗ atLeastOne (a .third)) (sub binary64 (a .second) (a .first)))
+    cond (lt (MIN_EIGEN_GAP ⊗ atLeastOne (a .third)) (sub binary64 (a .second) (a .first)))
     (Plane (n ! 0) (n ! 1) (n ! 2) (neg (dot 3 n mean)))
     NoPlane
 
@@ -68,11 +65,11 @@ between (fin true m e) h k = rw k
 
 -- ---- the two answers, of a decomposition that was sorted and a bound and a sum that were worked out
 module _ (d : List ℕ) (mean : List Float) (a : Axes) (b : Float) (sorted : a ≡ risingOf d) (bound : b ≡ atLeastOne (a .third)) where
-  pub found : (along : Float) → along ≡ dot 3 (a .normal) mean → lt (leastGap ⊗ b) (sub binary64 (a .second) (a .first)) ≡ true
+  pub found : (along : Float) → along ≡ dot 3 (a .normal) mean → lt (MIN_EIGEN_GAP ⊗ b) (sub binary64 (a .second) (a .first)) ≡ true
       → Plane (a .normal ! 0) (a .normal ! 1) (a .normal ! 2) (neg along) ≡ smallestAxis d mean
   unfolding smallestAxis
   found along e h = let g = rw bound at h in rw (← sorted, e, g)
 
-  pub none : lt (leastGap ⊗ b) (sub binary64 (a .second) (a .first)) ≡ false → NoPlane ≡ smallestAxis d mean
+  pub none : lt (MIN_EIGEN_GAP ⊗ b) (sub binary64 (a .second) (a .first)) ≡ false → NoPlane ≡ smallestAxis d mean
   unfolding smallestAxis
   none h = let g = rw bound at h in rw (← sorted, g)

@@ -5,8 +5,8 @@ use Prim.Native.Nat.{ℕ, suc, _+_}
 use native.Mathlib.Omega.{arith}
 use lib.ListN.{length}
 use mathlib.Core.List.{List, [], _∷_, _++_}
-use lib.Ieee.{Float, binary64, div, sub}
-use Rattle.sums.specs.Sum.{_⊕_, _⊗_, sumFromZero, tab, plus, grid}
+use lib.Ieee.{Float, binary64, sub}
+use Rattle.sums.specs.Sum.{_⊕_, _⊗_, sumFromZero, tab, plus, divided, grid}
 use Rattle.lists.specs.Part.{_!_, part}
 use Rattle.point_moments.specs.Scatter.{centredOf}
 use Rattle.point_moments.specs.declared.scatter.Centred.{Centred}
@@ -22,7 +22,7 @@ abbrev pub withSet : Weighted → List Float → Float → Weighted
 withSet s w n = record { total = s .total ⊕ n; sum = tab 3 (λ r. s .sum ! r ⊕ w ! r ⊗ n) }
 
 abbrev pub meanOf : Weighted → List Float
-meanOf s = tab 3 (λ r. div binary64 (s .sum ! r) (s .total))
+meanOf s = divided 3 (s .sum) (s .total)
 
 abbrev pub weighed : List Float → List Float → ℕ → Weighted
 weighed frames actions k = record { total = sumFromZero k (countAt frames); sum = tab 3 (λ r. sumFromZero k (weightedAt frames actions r)) }

@@ -1,4 +1,5 @@
 // The fit's answer: the axis of least scatter with its offset, or no plane.
+use decomposition::MIN_EIGEN_GAP;
 ghost use mathlib.Core.Path.{_≡_};
 ghost use lib.ListN.{length};
 ghost use Rattle.decomposition.specs.Axes.{DECOMPOSITION};
@@ -29,7 +30,7 @@ pub fn smallest_axis(decomposition: &[u64], mean: [f64; 3]) -> Fit
     ensures { λ r. ⌜ r ≡ smallestAxis (now (decomposition .entry)) mean ⌝ }
 {
     let a = decomposition::rising(decomposition);
-    let bound = 1e-14 * at_least_one(a.third);
+    let bound = MIN_EIGEN_GAP * at_least_one(a.third);
     let n = a.normal;
     let along = linear::dot3(n, mean);
     if a.second - a.first > bound {

@@ -86,7 +86,7 @@ impl Weighted {
     {
         let n = self.total;
         let u = self.sum;
-        [u[0] / n, u[1] / n, u[2] / n]
+        linear::divided3(u, n)
     }
 }
 
