@@ -1,18 +1,18 @@
 -- The calls of a host on moments as lists: why each is refused, and what it leaves where it is not. Definitions only.
 use Prim.Native.Nat.{ℕ, _/_}
-use mathlib.Core.Bool.{cond}
 use mathlib.Core.List.{List, [], _∷_}
 use lib.ListN.{length}
 use lib.Ieee.{Float}
 use Rattle.refusals.specs.Refusal.{_when_, firstOf, wrongLength, Answered}
 use Rattle.lists.specs.Part.{part}
 use Rattle.point_moments.specs.Moments.{MOMENTS, momentsOf, momentsList, pointReasons, ofPoints, withPoint, merged, transformed}
-use Rattle.point_moments.specs.Scatter.{meanAndScatter, meanList}
+use Rattle.point_moments.specs.Scatter.{meanAndScatter}
 use Rattle.point_moments.specs.Plane.{planeOf}
 use Rattle.decomposition.specs.Axes.{DECOMPOSITION}
 use Rattle.point_moments.specs.declared.plane.MomentsPlane.{MomentsPlane}
 use Rattle.point_moments.specs.declared.plane.MomentsPlane.the-variants.{Found, NoPlane}
 use Rattle.point_moments.specs.declared.scatter.MeanAndScatter.{MeanAndScatter}
+use Rattle.point_moments.specs.declared.scatter.MeanAndScatter.the-variants as mean
 
 -- Of each call: the number of the reason to refuse it, what it gives, and what a call with the answer r leaves.
 
@@ -57,12 +57,13 @@ moved m a b = momentsList (transformed (momentsOf m) (part 9 a 0) (part 3 b 0))
 abbrev pub Transforms : List Float → List Float → List Float → List Float → ℕ → List Float → Type 0
 Transforms m a b out r out′ = Answered (moveRefusal m a b out) r out out′ (moved m a b)
 
--- mean_and_scatter: the moments, the output and `found`; twelve numbers and 1, or the output as it was and 0
+-- mean_and_scatter: the moments, the output and `found`; the mean, the scatter by columns and 1, or the output as it was and 0
 unfoldable pub meanRefusal : List Float → List Float → ℕ
 meanRefusal m out = firstOf (3 when wrongLength ((length m, MOMENTS) ∷ (length out, 12) ∷ []) ∷ [])
 
 unfoldable pub meanAnswer : MeanAndScatter → List Float → List Float × ℕ
-meanAnswer m out = cond (m .found) (meanList m, 1) (out, 0)
+meanAnswer (mean.Found x y z xx yx zx xy yy zy xz yz zz) out = (x ∷ y ∷ z ∷ xx ∷ yx ∷ zx ∷ xy ∷ yy ∷ zy ∷ xz ∷ yz ∷ zz ∷ [], 1)
+meanAnswer mean.NoMean out = (out, 0)
 
 abbrev pub FindsMean : List Float → List Float → ℕ → ℕ → List Float → ℕ → Type 0
 FindsMean m out found r out′ found′ =

@@ -4,6 +4,7 @@ use decomposition::DECOMPOSITION;
 use point_moments::MOMENTS;
 use point_moments::PointMoments;
 use point_moments::plane::MomentsPlane;
+use point_moments::scatter::MeanAndScatter;
 
 // The moments of points, three numbers each.
 pub fn from_points(points: &[f64], moments: &mut [f64]) -> u32
@@ -12,11 +13,11 @@ pub fn from_points(points: &[f64], moments: &mut [f64]) -> u32
     if moments.len() != MOMENTS {
         return 3;
     }
-    let g = PointMoments::from_points(points);
-    if g.refusal != 0 {
-        return g.refusal;
+    let refusal = point_moments::points_refusal(points);
+    if refusal != 0 {
+        return refusal;
     }
-    let m = g.moments;
+    let m = PointMoments::from_points(points);
     m.write(moments);
     0
 }
@@ -82,13 +83,16 @@ pub fn mean_and_scatter(moments: &[f64], out: &mut [f64], found: &mut u32) -> u3
     if out.len() != 12 {
         return 3;
     }
-    let m = PointMoments::from_list(moments).mean_and_scatter();
-    if m.found {
-        let l = m.to_list();
-        lists::store(out, &l);
-        *found = 1;
-    } else {
-        *found = 0;
+    let answer = PointMoments::from_list(moments).mean_and_scatter();
+    match answer {
+        MeanAndScatter::Found(x, y, z, xx, yx, zx, xy, yy, zy, xz, yz, zz) => {
+            let l = [x, y, z, xx, yx, zx, xy, yy, zy, xz, yz, zz];
+            lists::store(out, &l);
+            *found = 1;
+        }
+        MeanAndScatter::NoMean => {
+            *found = 0;
+        }
     }
     0
 }

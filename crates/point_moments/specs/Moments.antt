@@ -8,8 +8,7 @@ use lib.Ieee.{Float, binary64, ofBits}
 use Rattle.sums.specs.Sum.{_⊕_, _⊗_, zeroF, tab, grid, at, column}
 use Rattle.moment_matrices.specs.Matrices.{turned, movedOuter}
 use Rattle.lists.specs.Part.{_!_, part}
-use Rattle.refusals.specs.Refusal.{Reason, _when_, firstOf, kept}
-use Rattle.point_moments.specs.declared.Gathered.{Gathered}
+use Rattle.refusals.specs.Refusal.{Reason, _when_}
 use Rattle.point_moments.specs.declared.PointMoments.{PointMoments}
 
 -- how many numbers a record of moments is
@@ -69,9 +68,3 @@ MOST_POINTS = 65536
 -- a list of points is whole points of three numbers, and not too many
 unfoldable pub pointReasons : List Float → List Reason
 pointReasons p = 3 when (not (eqb (length p % 3) 0) || ltb MOST_POINTS (length p / 3)) ∷ []
-
-unfoldable pub fromPoints : List Float → Gathered
-fromPoints p = record {
-  refusal = firstOf (pointReasons p);
-  moments = kept (firstOf (pointReasons p)) empty (ofPoints (length p / 3) p);
-}

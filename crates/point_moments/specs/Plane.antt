@@ -5,19 +5,16 @@ use mathlib.Core.List.{List}
 use lib.Ieee.{Float, binary64, ofBits, sub, neg, lt}
 use Rattle.sums.specs.Sum.{dot}
 use Rattle.lists.specs.Part.{_!_}
-use Rattle.decomposition.specs.Axes.{risingOf}
+use Rattle.decomposition.specs.Axes.{MIN_EIGEN_GAP, risingOf}
 use Rattle.decomposition.specs.declared.Axes.{Axes}
 use Rattle.point_moments.specs.Scatter.{mean}
 use Rattle.point_moments.specs.declared.PointMoments.{PointMoments}
 use Rattle.point_moments.specs.declared.plane.MomentsPlane.{MomentsPlane}
 use Rattle.point_moments.specs.declared.plane.MomentsPlane.the-variants.{Found, NoPlane}
 
--- 3 and 1e-14, by their bits
+-- 3, by its bits
 abbrev pub three : Float
 three = ofBits binary64 0x4008_0000_0000_0000
-
-abbrev pub leastGap : Float
-leastGap = ofBits binary64 0x3d06_849b_86a1_2b9b
 
 -- the vector of the first eigenvalue, -(Σ n_r·mean_r), and the eigenvalues as they rise
 abbrev pub planeBy : Axes → List Float → MomentsPlane
@@ -29,4 +26,4 @@ planeBy d mean =
 unfoldable pub planeOf : PointMoments → List ℕ → MomentsPlane
 planeOf m d =
     cond (lt (m .count) three) NoPlane
-    (cond (lt (sub binary64 (risingOf d .second) (risingOf d .first)) leastGap) NoPlane (planeBy (risingOf d) (mean m)))
+    (cond (lt (sub binary64 (risingOf d .second) (risingOf d .first)) MIN_EIGEN_GAP) NoPlane (planeBy (risingOf d) (mean m)))

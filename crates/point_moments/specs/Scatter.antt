@@ -1,19 +1,19 @@
 -- The mean of a set of points, the scatter about it, and the centred frame, entry by entry. Definitions only.
 use Prim.Native.Nat.{ℕ}
-use mathlib.Core.Bool.{Bool, not}
+use mathlib.Core.Bool.{Bool, not, cond}
 use mathlib.Core.List.{List, _∷_, _++_}
 use lib.Ieee.{Float, le}
-use Rattle.sums.specs.Sum.{zeroF, scaled}
-use Rattle.moment_matrices.specs.Matrices.{meanOf, scatterOf}
+use Rattle.sums.specs.Sum.{zeroF, scaled, divided}
+use Rattle.moment_matrices.specs.Matrices.{scatterOf}
 use Rattle.lists.specs.Part.{_!_, part}
 use Rattle.point_moments.specs.declared.PointMoments.{PointMoments}
 use Rattle.point_moments.specs.declared.scatter.MeanAndScatter.{MeanAndScatter}
+use Rattle.point_moments.specs.declared.scatter.MeanAndScatter.the-variants.{Found, NoMean}
 use Rattle.point_moments.specs.declared.scatter.Centred.{Centred}
-use Rattle.point_moments.specs.declared.scatter.CentredAnswer.{CentredAnswer}
 
 -- sum_r / count
 abbrev pub mean : PointMoments → List Float
-mean m = meanOf (m .sum) (m .count)
+mean m = divided 3 (m .sum) (m .count)
 
 abbrev pub scatter : PointMoments → List Float
 scatter m = scatterOf (m .outer) (mean m) (m .count)
@@ -22,15 +22,17 @@ scatter m = scatterOf (m .outer) (mean m) (m .count)
 abbrev pub hasMean : PointMoments → Bool
 hasMean m = not (le (m .count) zeroF)
 
-unfoldable pub meanAndScatter : PointMoments → MeanAndScatter
-meanAndScatter m = record { found = hasMean m; mean = mean m; scatter = scatter m }
+-- the mean u and the scatter s about it
+abbrev pub meanBy : List Float → List Float → MeanAndScatter
+meanBy u s = Found (u ! 0) (u ! 1) (u ! 2) (s ! 0) (s ! 1) (s ! 2) (s ! 3) (s ! 4) (s ! 5) (s ! 6) (s ! 7) (s ! 8)
 
--- the same, with the scatter times the count
-unfoldable pub centred : PointMoments → CentredAnswer
-centred m = record {
-  found = hasMean m;
-  frame = record { count = m .count; mean = mean m; scatter = scaled 9 (scatter m) (m .count) };
-}
+-- none without a mean
+unfoldable pub meanAndScatter : PointMoments → MeanAndScatter
+meanAndScatter m = cond (hasMean m) (meanBy (mean m) (scatter m)) NoMean
+
+-- of a set that has a mean: the same, with the scatter times the count
+unfoldable pub centred : PointMoments → Centred
+centred m = record { count = m .count; mean = mean m; scatter = scaled 9 (scatter m) (m .count) }
 
 -- how many numbers a centred frame is
 abbrev pub CENTRED : ℕ
@@ -42,7 +44,3 @@ centredOf l = record { count = l ! 0; mean = part 3 l 1; scatter = part 9 l 4 }
 
 abbrev pub centredList : Centred → List Float
 centredList f = f .count ∷ part 3 (f .mean) 0 ++ part 9 (f .scatter) 0
-
--- twelve numbers: mean, then scatter
-abbrev pub meanList : MeanAndScatter → List Float
-meanList m = part 3 (m .mean) 0 ++ part 9 (m .scatter) 0

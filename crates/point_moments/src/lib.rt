@@ -3,10 +3,10 @@ pub mod plane;
 pub mod scatter;
 
 ghost use mathlib.Core.Path.{_≡_};
-ghost use Prim.Native.Nat.{_*_, _≤_};
+ghost use Prim.Native.Nat.{_*_, _/_, _≤_};
 ghost use lib.ListN.{length};
 ghost use Rattle.refusals.specs.Refusal.{firstOf};
-ghost use Rattle.point_moments.specs.Moments.{MOMENTS, momentsOf, momentsList, empty, withPoint, merged, transformed, ofPoints, pointReasons, fromPoints};
+ghost use Rattle.point_moments.specs.Moments.{MOMENTS, momentsOf, momentsList, empty, withPoint, merged, transformed, ofPoints, pointReasons};
 
 // The outer products are by columns.
 pub struct PointMoments {
@@ -20,12 +20,6 @@ pub const MOMENTS: usize = 13;
 
 // The most points of a call.
 pub const MOST_POINTS: usize = 65_536;
-
-// The moments of a list of points, or the number of the reason to refuse it and the empty set.
-pub struct Gathered {
-    pub refusal: u32,
-    pub moments: PointMoments,
-}
 
 impl PointMoments {
     // No points.
@@ -102,17 +96,12 @@ impl PointMoments {
         }
     }
 
-    // Of points of three numbers each: whole points, and at most MOST_POINTS.
-    pub fn from_points(points: &[f64]) -> Gathered
-        ensures { λ r. ⌜ r ≡ fromPoints (now (points .entry)) ⌝ }
+    // Of points of three numbers each, which `points_refusal` does not refuse.
+    pub fn from_points(points: &[f64]) -> PointMoments
+        requires { ⌜ firstOf (pointReasons (now points)) ≡ 0 ⌝ }
+        ensures { λ r. ⌜ r ≡ ofPoints (length (now (points .entry)) / 3) (now (points .entry)) ⌝ }
     {
-        let refusal = points_refusal(points);
-        if refusal != 0 {
-            let moments = PointMoments::empty();
-            return Gathered { refusal, moments };
-        }
-        let moments = of_points(points, points.len() / 3);
-        Gathered { refusal, moments }
+        of_points(points, points.len() / 3)
     }
 
     // Of the points a·p + b.
@@ -129,8 +118,8 @@ impl PointMoments {
     }
 }
 
-// The number of the reason to refuse a list of points, or 0.
-fn points_refusal(points: &[f64]) -> u32
+// The number of the reason to refuse a list of points, or 0: it is whole points, and at most MOST_POINTS.
+pub fn points_refusal(points: &[f64]) -> u32
     ensures { λ r. ⌜ r ≡ firstOf (pointReasons (now (points .entry))) ⌝ }
 {
     if points.len() % 3 != 0 {

@@ -1,5 +1,6 @@
 // The plane that fits a set of points best, from the decomposition of its scatter.
 use crate::PointMoments;
+use decomposition::MIN_EIGEN_GAP;
 ghost use mathlib.Core.Path.{_≡_};
 ghost use lib.ListN.{length};
 ghost use Rattle.decomposition.specs.Axes.{DECOMPOSITION};
@@ -22,12 +23,12 @@ impl PointMoments {
             return MomentsPlane::NoPlane;
         }
         let d = decomposition::rising(decomposition);
-        if d.second - d.first < 1e-14 {
+        if d.second - d.first < MIN_EIGEN_GAP {
             return MomentsPlane::NoPlane;
         }
         let s = self.sum;
         let n = d.normal;
-        let offset = -linear::dot3(n, moment_matrices::mean_of(s, count));
+        let offset = -linear::dot3(n, linear::divided3(s, count));
         MomentsPlane::Found(n[0], n[1], n[2], offset, d.first, d.second, d.third)
     }
 }

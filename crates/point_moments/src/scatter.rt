@@ -2,13 +2,13 @@
 use crate::PointMoments;
 ghost use mathlib.Core.Path.{_≡_};
 ghost use lib.ListN.{length};
-ghost use Rattle.point_moments.specs.Scatter.{CENTRED, meanAndScatter, centred, meanList, centredOf, centredList};
+ghost use mathlib.Core.Bool.{true};
+ghost use Rattle.point_moments.specs.Scatter.{CENTRED, hasMean, meanAndScatter, centred, centredOf, centredList};
 
-// Where `found` is false there is neither, and the numbers mean nothing.
-pub struct MeanAndScatter {
-    pub found: bool,
-    pub mean: [f64; 3],
-    pub scatter: [f64; 9],
+pub enum MeanAndScatter {
+    // The mean, then the scatter by columns.
+    Found(f64, f64, f64, f64, f64, f64, f64, f64, f64, f64, f64, f64),
+    NoMean,
 }
 
 // How many numbers a centred frame is.
@@ -21,56 +21,49 @@ pub struct Centred {
     pub scatter: [f64; 9],
 }
 
-pub struct CentredAnswer {
-    pub found: bool,
-    pub frame: Centred,
-}
-
 impl PointMoments {
     pub fn mean_and_scatter(self) -> MeanAndScatter
         ensures { λ r. ⌜ r ≡ meanAndScatter self ⌝ }
     {
-        let s = self.sum;
-        let o = self.outer;
         let n = self.count;
-        let mean = moment_matrices::mean_of(s, n);
-        let scatter = moment_matrices::scatter_of(o, mean, n);
-        MeanAndScatter {
-            found: !(n <= 0.0),
-            mean,
-            scatter,
+        if n <= 0.0 {
+            return MeanAndScatter::NoMean;
         }
+        let sum = self.sum;
+        let o = self.outer;
+        let u = linear::divided3(sum, n);
+        let s = moment_matrices::scatter_of(o, u, n);
+        MeanAndScatter::Found(
+            u[0],
+            u[1],
+            u[2],
+            s[0],
+            s[1],
+            s[2],
+            s[3],
+            s[4],
+            s[5],
+            s[6],
+            s[7],
+            s[8],
+        )
     }
 
-    // The set as a frame of the factor takes it.
-    pub fn centred(self) -> CentredAnswer
+    // The set as a frame of the factor takes it. Only of a set that has a mean: a build tests that before.
+    pub fn centred(self) -> Centred
+        requires { ⌜ hasMean self ≡ true ⌝ }
         ensures { λ r. ⌜ r ≡ centred self ⌝ }
     {
         let n = self.count;
-        let m = self.mean_and_scatter();
-        let mean = m.mean;
-        let about = m.scatter;
-        let scatter = moment_matrices::scaled9(about, n);
-        let frame = Centred {
+        let s = self.sum;
+        let o = self.outer;
+        let mean = linear::divided3(s, n);
+        let scatter = moment_matrices::scaled9(moment_matrices::scatter_of(o, mean, n), n);
+        Centred {
             count: n,
             mean,
             scatter,
-        };
-        CentredAnswer {
-            found: m.found,
-            frame,
         }
-    }
-}
-
-impl MeanAndScatter {
-    // Mean, then scatter.
-    pub fn to_list(self) -> [f64; 12]
-        ensures { λ r. ⌜ r ≡ meanList self ⌝ }
-    {
-        let u = self.mean;
-        let s = self.scatter;
-        lists::three_and_nine(u, s)
     }
 }
 
