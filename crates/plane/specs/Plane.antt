@@ -1,15 +1,16 @@
 -- A plane n·x + d = 0, and when a normal makes one. Definitions only.
-use Prim.Native.Nat.{ℕ}
+use Prim.Native.Nat.{ℕ, zero, suc}
 use mathlib.Core.Bool.{not}
 use mathlib.Core.List.{List, [], _∷_, _++_}
 use lib.Ieee.{Float, binary64, ofBits, div}
-use Rattle.sums.specs.Sum.{zeroF, tab, dot}
+use Rattle.sums.specs.Sum.{dot, divided}
 use Rattle.lists.specs.Part.{_!_, part}
-use Rattle.refusals.specs.Refusal.{Reason, _when_, firstOf, kept}
+use Rattle.refusals.specs.Refusal.{Reason, _when_, firstOf}
 use Rattle.square_root.specs.Computed.{squareRoot}
 use Rattle.validate.specs.Finite.{finiteAbove}
 use Rattle.plane.specs.declared.Plane.{Plane}
 use Rattle.plane.specs.declared.PlaneAnswer.{PlaneAnswer}
+use Rattle.plane.specs.declared.PlaneAnswer.the-variants.{Refused, Made}
 
 -- how many numbers a plane is as a list
 abbrev pub PLANE : ℕ
@@ -34,21 +35,15 @@ leastNorm = ofBits binary64 0x3d71_9799_812d_ea11
 abbrev pub normalReasons : List Float → List Reason
 normalReasons n = 11 when not (finiteAbove leastNorm (norm n)) ∷ []
 
--- v / s, each number a division
-abbrev pub divided : List Float → Float → List Float
-divided v s = tab 3 (λ r. div binary64 (v ! r) s)
-
 -- normal / norm and offset / norm
 abbrev pub unitPlane : List Float → Float → Plane
-unitPlane n d = record { normal = divided n (norm n); offset = div binary64 d (norm n) }
+unitPlane n d = record { normal = divided 3 n (norm n); offset = div binary64 d (norm n) }
 
--- four zeros, beside the number of a refusal
-abbrev pub noPlane : Plane
-noPlane = record { normal = tab 3 (λ r. zeroF); offset = zeroF }
+-- the answer of a refusal's number, and of a plane where that is 0
+abbrev pub answer : ℕ → Plane → PlaneAnswer
+answer zero p = Made (p .normal ! 0) (p .normal ! 1) (p .normal ! 2) (p .offset)
+answer (suc k) p = Refused (suc k)
 
 -- the plane of a normal of any length
 unfoldable pub planeNew : List Float → Float → PlaneAnswer
-planeNew n d = record {
-  refusal = firstOf (normalReasons n);
-  plane = kept (firstOf (normalReasons n)) noPlane (unitPlane n d);
-}
+planeNew n d = answer (firstOf (normalReasons n)) (unitPlane n d)

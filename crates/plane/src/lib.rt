@@ -4,7 +4,7 @@ ghost use Prim.Native.Nat.{_+_, _≤_};
 ghost use lib.ListN.{length};
 ghost use Rattle.sums.specs.Sum.{_⊗_, sumTo, off};
 ghost use Rattle.lists.specs.Part.{_!_};
-ghost use Rattle.plane.specs.Plane.{PLANE, planeOf, planeList, divided, planeNew};
+ghost use Rattle.plane.specs.Plane.{PLANE, planeOf, planeNew};
 ghost use Rattle.plane.specs.Sigma.{jacobian, pointTerm, planeTerm, variance, deviation};
 
 // The points x with normal·x + offset = 0.
@@ -13,10 +13,10 @@ pub struct Plane {
     pub offset: f64,
 }
 
-// A plane, or the number of the reason to refuse it and four zeros.
-pub struct PlaneAnswer {
-    pub refusal: u32,
-    pub plane: Plane,
+// The normal and the offset of a plane, or the number of the reason to refuse it.
+pub enum PlaneAnswer {
+    Refused(u32),
+    Made(f64, f64, f64, f64),
 }
 
 // The standard deviation of a point's distance from a plane, or the number of the reason to refuse it.
@@ -31,19 +31,8 @@ pub const PLANE: usize = 4;
 // The norm of a normal lies above this.
 const LEAST_NORM: f64 = 1e-12;
 
-fn divided3(v: [f64; 3], s: f64) -> [f64; 3]
-    ensures { λ r. ⌜ r ≡ divided v s ⌝ }
-{
-    [v[0] / s, v[1] / s, v[2] / s]
-}
-
 impl Plane {
-    const NONE: Plane = Plane {
-        normal: [0.0; 3],
-        offset: 0.0,
-    };
-
-    // Between a plane and a list of PLANE numbers: only these know the places.
+    // Of a list of PLANE numbers: normal, then offset.
     pub fn from_list(l: &[f64]) -> Plane
         requires { ⌜ length (now l) ≡ PLANE ⌝ }
         ensures { λ r. ⌜ r ≡ planeOf (now (l .entry)) ⌝ }
@@ -55,38 +44,16 @@ impl Plane {
         }
     }
 
-    fn to_list(self) -> [f64; PLANE]
-        ensures { λ r. ⌜ r ≡ planeList self ⌝ }
-    {
-        let n = self.normal;
-        [n[0], n[1], n[2], self.offset]
-    }
-
-    pub fn write(self, l: &mut [f64])
-        requires { ⌜ length (now l) ≡ PLANE ⌝ }
-        ensures { λ _. ⌜ now (l .exit) ≡ planeList self ⌝ }
-    {
-        let r = self.to_list();
-        lists::store(l, &r);
-    }
-
     // The plane of a normal of any length: normal and offset are divided by it.
     pub fn new(normal: [f64; 3], offset: f64) -> PlaneAnswer
         ensures { λ r. ⌜ r ≡ planeNew normal offset ⌝ }
     {
         let norm = square_root::sqrt(linear::dot3(normal, normal));
         if !validate::is_above(norm, LEAST_NORM) {
-            return PlaneAnswer {
-                refusal: 11,
-                plane: Plane::NONE,
-            };
+            return PlaneAnswer::Refused(11);
         }
-        let unit = divided3(normal, norm);
-        let plane = Plane {
-            normal: unit,
-            offset: offset / norm,
-        };
-        PlaneAnswer { refusal: 0, plane }
+        let n = linear::divided3(normal, norm);
+        PlaneAnswer::Made(n[0], n[1], n[2], offset / norm)
     }
 }
 

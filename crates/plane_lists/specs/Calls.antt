@@ -7,8 +7,10 @@ use lib.Ieee.{Float}
 use Rattle.refusals.specs.Refusal.{_when_, firstOf, wrongLength, Answered}
 use Rattle.square_root.specs.Computed.{squareRoot}
 use Rattle.plane.specs.Plane.{PLANE, planeOf, planeList, normalReasons, unitPlane}
+use Rattle.plane.specs.declared.PlaneAnswer.{PlaneAnswer}
+use Rattle.plane.specs.declared.PlaneAnswer.the-variants as plane
 use Rattle.plane.specs.declared.Sigma.{Sigma}
-use Rattle.plane.specs.declared.Sigma.the-variants.{Refused, Value}
+use Rattle.plane.specs.declared.Sigma.the-variants as deviation
 use Rattle.plane.specs.Sigma.{variance, varianceReasons}
 
 -- plane_new: a normal of three numbers, and room for a plane
@@ -18,18 +20,18 @@ newRefusal n out = firstOf (3 when wrongLength ((length n, 3) ∷ (length out, P
 unfoldable pub newPlane : List Float → Float → List Float
 newPlane n d = planeList (unitPlane n d)
 
--- an answer as document 01's number, and as what it leaves in the deviation
-abbrev pub numberOf : Sigma → ℕ
-numberOf (Refused k) = k
-numberOf (Value x) = 0
+-- an answer as document 01's number, and as what it leaves where the old content was
+abbrev pub toldPlane : PlaneAnswer → List Float → ℕ × List Float
+toldPlane (plane.Refused k) old = (k, old)
+toldPlane (plane.Made x y z offset) old = (0, x ∷ y ∷ z ∷ offset ∷ [])
 
-abbrev pub leftBy : Sigma → Float → Float
-leftBy (Refused k) old = old
-leftBy (Value x) old = x
+abbrev pub toldSigma : Sigma → Float → ℕ × Float
+toldSigma (deviation.Refused k) old = (k, old)
+toldSigma (deviation.Value x) old = (0, x)
 
-pub record Told (answer : Sigma) (number : ℕ) (old left : Float) : Type 0 where
-  pub number-is : number ≡ numberOf answer
-  pub left-is : left ≡ leftBy answer old
+pub record Told {A : Type 0} (answer : ℕ × A) (number : ℕ) (left : A) : Type 0 where
+  pub number-is : number ≡ answer .0
+  pub left-is : left ≡ answer .1
 
 -- what point_to_plane_sigma is handed
 pub record Inputs : Type 0 where

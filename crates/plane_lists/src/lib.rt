@@ -1,9 +1,12 @@
 // The calls of a host on planes as lists: each answers 0, or the number of the reason to refuse it, and then it writes nothing.
 ghost use mathlib.Core.Path.{_≡_};
+ghost use lib.ListN.{length};
 ghost use Rattle.refusals.specs.Refusal.{Answered};
-ghost use Rattle.plane_lists.specs.Calls.{newRefusal, newPlane, Told, SigmaAnswered};
+ghost use Rattle.plane.specs.Plane.{PLANE};
+ghost use Rattle.plane_lists.specs.Calls.{newRefusal, newPlane, Told, toldPlane, toldSigma, SigmaAnswered};
 use plane::PLANE;
 use plane::Plane;
+use plane::PlaneAnswer;
 use plane::Sigma;
 
 // The plane of a normal of any length.
@@ -16,18 +19,26 @@ pub fn plane_new(normal: &[f64], offset: f64, plane: &mut [f64]) -> u32
     if plane.len() != PLANE {
         return 3;
     }
-    let made = Plane::new(lists::three(normal, 0), offset);
-    if made.refusal != 0 {
-        return made.refusal;
-    }
-    let p = made.plane;
-    p.write(plane);
-    0
+    told_plane(Plane::new(lists::three(normal, 0), offset), plane)
 }
 
-// The number of an answer; its value goes to `sigma`.
-fn told(answer: Sigma, sigma: &mut f64) -> u32
-    ensures { λ r. ⌜ Told answer r (now (sigma .entry)) (now (sigma .exit)) ⌝ }
+// The number of an answer; what it found goes to `plane`, or to `sigma`.
+fn told_plane(answer: PlaneAnswer, plane: &mut [f64]) -> u32
+    requires { ⌜ length (now plane) ≡ PLANE ⌝ }
+    ensures { λ r. ⌜ Told (toldPlane answer (now (plane .entry))) r (now (plane .exit)) ⌝ }
+{
+    match answer {
+        PlaneAnswer::Refused(k) => k,
+        PlaneAnswer::Made(x, y, z, offset) => {
+            let l = [x, y, z, offset];
+            lists::store(plane, &l);
+            0
+        }
+    }
+}
+
+fn told_sigma(answer: Sigma, sigma: &mut f64) -> u32
+    ensures { λ r. ⌜ Told (toldSigma answer (now (sigma .entry))) r (now (sigma .exit)) ⌝ }
 {
     match answer {
         Sigma::Refused(k) => k,
@@ -73,5 +84,5 @@ pub fn point_to_plane_sigma(
     let o = lists::three(centroid, 0);
     let w = lists::three(world, 0);
     let answer = plane::point_to_plane_sigma(Plane::from_list(plane), o, plane_covariance, p, w, a);
-    told(answer, sigma)
+    told_sigma(answer, sigma)
 }

@@ -6,7 +6,7 @@ use Rattle.sums.specs.Laws.{tab-getD}
 use Rattle.refusals.specs.Refusal.{refused}
 use Rattle.plane.specs.Sigma.{deviation}
 use Rattle.plane_lists.specs.Calls.{sigmaRefusal, sigma}
-use Rattle.plane_lists.proofs.Laws.{answered}
+use Rattle.plane_lists.proofs.Laws.{sigma-told, answered}
 use Rattle.plane_lists.proofs.point_to_plane_sigma.Statement.{statement}
 use Rattle.plane_lists.proofs.point_to_plane_sigma.Tie as tie
 
@@ -54,7 +54,7 @@ returns-7 c =
       tab-getD 9 (given .point-covariance .now) (six .before .before .if4 .left),
       tab-getD 3 (given .world .now) (six .before .if5 .left),
       tab-getD 9 (given .d-world-d-point .now) (six .if6 .left),
-    ) at (c .told .ensures) in
+    ) at (c .told-sigma .ensures) in
     rw (
       eq-eqb _ _ (three .before .before .if1 .left),
       eq-eqb _ _ (three .before .if2 .left),
@@ -62,7 +62,7 @@ returns-7 c =
       eq-eqb _ _ (six .before .before .if4 .left),
       eq-eqb _ _ (six .before .if5 .left),
       eq-eqb _ _ (six .if6 .left),
-    ) (answered _ answer)
+    ) (answered (sigma-told _ _ _) answer)
 
 pub point-to-plane-sigma-spec : {M : Type 1} → statement M
 point-to-plane-sigma-spec =
