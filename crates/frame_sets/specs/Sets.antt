@@ -61,9 +61,9 @@ notFinite frames fixed = not (allFinite frames) || not (allFinite fixed)
 
 -- ---- the sets centred
 
--- one set centred on its mean
+-- one set centred on its mean, which it has: frames by test 4, and a fixed set that is not dropped
 abbrev pub centredSet : List Float → List Float
-centredSet set = centredList (centred (momentsOf set) .frame)
+centredSet set = centredList (centred (momentsOf set))
 
 -- number r of frame k centred
 unfoldable pub centredNumber : List Float → ℕ → ℕ → Float

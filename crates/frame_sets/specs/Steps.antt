@@ -1,9 +1,9 @@
 -- What the functions on sets have on the way: a slice that is empty or one set, and one frame more centred. Assumes nothing.
-use mathlib.Core.Path.{_≡_, refl, sym, _∙_}
+use mathlib.Core.Path.{_≡_, refl, sym, ap, _∙_}
 use mathlib.Core.Logic.{_⊎_, ⊎-elim}
-use mathlib.Core.Bool.{false, true}
+use mathlib.Core.Bool.{false, true, not}
 use mathlib.Core.List.{List, [], _∷_}
-use Prim.Native.Nat.{ℕ, suc, _+_, _-_, _≤_}
+use Prim.Native.Nat.{ℕ, suc, _+_, _-_, _<_, _≤_}
 use native.Mathlib.Omega.{arith}
 use lib.ListN.{length, take, drop, length-take, length-drop}
 use lib.Seq.{drop-drop}
@@ -12,9 +12,10 @@ use borrow.Rule.Slice.PartMut.{putMid}
 use Rattle.sums.specs.Sum.{zeroF}
 use Rattle.sums.specs.Fill.{written}
 use Rattle.point_moments.specs.Moments.{MOMENTS, momentsOf}
-use Rattle.point_moments.specs.Scatter.{CENTRED}
+use Rattle.normal_blocks.specs.Somewhere.{nowhere-at}
+use Rattle.point_moments.specs.Scatter.{CENTRED, hasMean}
 use Rattle.plane_fit.specs.Records.{recordOf}
-use Rattle.frame_sets.specs.Sets.{fixedCount, dropped, centredSet, centredNumber, centredFixed}
+use Rattle.frame_sets.specs.Sets.{setCount, setAt, countAt, emptyAt, someEmpty, fixedCount, dropped, centredSet, centredNumber, centredFixed}
 
 -- a fixed slice that is not empty is one set
 pub one-set : (fixed : List Float) → (length fixed ≡ 0) ⊎ (length fixed ≡ MOMENTS) → (length fixed ≡ 0 → ⊥) → length fixed ≡ MOMENTS
@@ -42,6 +43,14 @@ pub dropped-some : (fixed : List Float) → (length fixed ≡ 0 → ⊥) → le 
 unfolding dropped
 dropped-some [] h = absurd (h refl)
 dropped-some (x ∷ l) h = refl
+
+-- where no frame is empty each has a mean, and so has a fixed set that is not dropped
+pub frame-mean : (frames : List Float) → someEmpty frames ≡ false → (k : ℕ) → k < setCount frames → hasMean (setAt frames k) ≡ true
+unfolding someEmpty emptyAt countAt
+frame-mean frames h k l = ap not (nowhere-at (emptyAt frames) (setCount frames) h k l)
+
+pub fixed-mean : (fixed : List Float) → (length fixed ≡ 0 → ⊥) → dropped fixed ≡ false → hasMean (momentsOf fixed) ≡ true
+fixed-mean fixed n h = ap not (dropped-some fixed n ∙ h)
 
 pub fixed-none : (fixed old : List Float) → length fixed ≡ 0 → old ≡ centredFixed fixed old
 unfolding centredFixed

@@ -1,10 +1,11 @@
 // The moments that a frame factor is built from: the tests of them, and the sets centred on their means.
 ghost use mathlib.Core.Path.{_≡_};
 ghost use mathlib.Core.Logic.{_⊎_};
+ghost use mathlib.Core.Bool.{true, false};
 ghost use Prim.Native.Nat.{_*_};
 ghost use lib.ListN.{length};
-ghost use Rattle.point_moments.specs.Moments.{MOMENTS};
-ghost use Rattle.point_moments.specs.Scatter.{CENTRED};
+ghost use Rattle.point_moments.specs.Moments.{MOMENTS, momentsOf};
+ghost use Rattle.point_moments.specs.Scatter.{CENTRED, hasMean};
 ghost use Rattle.frame_sets.specs.Sets.{setCount, someEmpty, countSum, fixedCount, tooFew, notFinite, dropped, centredSet, centredFrames, centredFixed, points};
 use point_moments::MOMENTS;
 use point_moments::PointMoments;
@@ -93,19 +94,18 @@ pub fn point_total(frames: &[f64], fixed: &[f64]) -> f64
     sum + fixed_count(fixed)
 }
 
-// One set centred, into a slice of its size.
+// One set that has a mean centred, into a slice of its size.
 fn centre(set: &[f64], out: &mut [f64])
-    requires { ⌜ (length (now set) ≡ MOMENTS) × (length (now out) ≡ CENTRED) ⌝ }
+    requires { ⌜ (length (now set) ≡ MOMENTS) × (length (now out) ≡ CENTRED) × (hasMean (momentsOf (now set)) ≡ true) ⌝ }
     ensures { λ _. ⌜ now (out .exit) ≡ centredSet (now (set .entry)) ⌝ }
 {
-    let answer = PointMoments::from_list(set).centred();
-    let frame = answer.frame;
+    let frame = PointMoments::from_list(set).centred();
     frame.write(out);
 }
 
-// The frames centred, one after the other.
+// The frames centred, one after the other, where none is empty.
 pub fn centre_frames(frames: &[f64], out: &mut [f64])
-    requires { ⌜ length (now out) ≡ setCount (now frames) * CENTRED ⌝ }
+    requires { ⌜ (length (now out) ≡ setCount (now frames) * CENTRED) × (someEmpty (now frames) ≡ false) ⌝ }
     ensures { λ _. ⌜ now (out .exit) ≡ centredFrames (now (frames .entry)) ⌝ }
 {
     let mut k = 0;

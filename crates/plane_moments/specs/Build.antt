@@ -22,6 +22,7 @@ use Rattle.point_moments.specs.Scatter.{CENTRED, hasMean}
 use Rattle.derivative.specs.Action.{mostDof}
 use Rattle.plane_fit.specs.Calls.{mostFrames, badRecords, badCount, at-most-one, one-each}
 use Rattle.plane_fit.specs.Records.{whole, record-at}
+use Rattle.frame_sets.specs.Steps.{frame-mean}
 use Rattle.frame_sets.specs.Sets.{setCount, setAt, countAt, emptyAt, someEmpty, tooFew, notFinite, dropped, centredFrames, centredFixed, points}
 
 -- 3: the frames are whole sets, at most 256; the fixed set is nothing or one set; each output is one centred set for each set of its input. So the
@@ -120,6 +121,9 @@ module _ (dof : ℕ) (frames fixed : List Float) (sigma : Float) (outFrames outF
       let six = none (notFinite frames fixed) 5 _ (five .1) in
       (three .0, four .0, six .0)
 
+  pub built-sets : someEmpty frames ≡ false
+  built-sets = passed .1
+
   pub built-whole : Whole frames fixed outFrames outFixed
   built-whole = whole-sets frames fixed outFrames outFixed (passed .0)
 
@@ -132,8 +136,7 @@ module _ (dof : ℕ) (frames fixed : List Float) (sigma : Float) (outFrames outF
 
   -- and none of its frames is without a mean, so that the Rust's Degenerate, which has no number here, cannot arise
   pub built-mean : (k : ℕ) → k < setCount frames → hasMean (setAt frames k) ≡ true
-  unfolding someEmpty emptyAt countAt
-  built-mean k h = ap not (nowhere-at (emptyAt frames) (setCount frames) (passed .1) k h)
+  built-mean = frame-mean frames built-sets
 
   -- each count is above 0
   pub built-count : (k : ℕ) → k < setCount frames → lt zeroF (countAt frames k) ≡ true

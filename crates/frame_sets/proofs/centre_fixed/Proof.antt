@@ -2,7 +2,7 @@
 use mathlib.Core.Path.{sym, _∙_}
 use borrow.Author.Needs.{needs}
 use native.Mathlib.Omega.{arith}
-use Rattle.frame_sets.specs.Steps.{one-set, fixed-none, fixed-dropped, fixed-kept}
+use Rattle.frame_sets.specs.Steps.{one-set, fixed-mean, fixed-none, fixed-dropped, fixed-kept}
 use Rattle.frame_sets.proofs.centre_fixed.Statement.{statement}
 use Rattle.frame_sets.proofs.centre_fixed.Tie as tie
 
@@ -17,7 +17,7 @@ centre-requires c κs =
     let e = c .before .before .before in
     let s = e .before .before .before in
     let one = one-set (s .args .fixed .now) (s .pre .0) (e .if1 .left) in
-    (one, omega (arith, one, s .pre .1))
+    (one, omega (arith, one, s .pre .1), fixed-mean _ (e .if1 .left) (sym (c .before .before .is-dropped .ensures) ∙ c .before .if2 .left))
 
 returns-3 : tie.Need-returns-3
 returns-3 c =

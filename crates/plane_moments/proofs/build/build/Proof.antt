@@ -2,7 +2,9 @@
 use mathlib.Core.Path.{_≡_, sym, _∙_}
 use borrow.Author.Needs.{needs}
 use Rattle.refusals.specs.Refusal.{refused-by, accepted}
-use Rattle.plane_moments.specs.Build.{Whole, built, built-whole}
+use mathlib.Core.Bool.{false}
+use Rattle.frame_sets.specs.Sets.{someEmpty}
+use Rattle.plane_moments.specs.Build.{Whole, built, built-sets, built-whole}
 use Rattle.plane_moments.proofs.build.build.Statement.{statement}
 use Rattle.plane_moments.proofs.build.build.Tie as tie
 use Rattle.plane_moments.proofs.build.build.Reads as reads
@@ -28,11 +30,17 @@ whole c =
     let a = c .before .before .before .before .before .before .before .before .args in
     built-whole (a .dof) (a .frames .now) (a .fixed .now) (a .sigma) (a .centred-frames .now) (a .centred-fixed .now) (sym (c .before .refusal .ensures) ∙ c .if1 .left)
 
+-- and no frame is empty
+filled : (c : Accepted) → let a = c .before .before .before .before .before .before .before .before .args in someEmpty (a .frames .now) ≡ false
+filled c =
+    let a = c .before .before .before .before .before .before .before .before .args in
+    built-sets (a .dof) (a .frames .now) (a .fixed .now) (a .sigma) (a .centred-frames .now) (a .centred-fixed .now) (sym (c .before .refusal .ensures) ∙ c .if1 .left)
+
 point-total-requires : tie.Need-point-total-requires
 point-total-requires c κs = whole c .fixed-set
 
 centre-frames-requires : tie.Need-centre-frames-requires
-centre-frames-requires c κs = whole (c .before .before) .frames-out
+centre-frames-requires c κs = (whole (c .before .before) .frames-out, filled (c .before .before))
 
 centre-fixed-requires : tie.Need-centre-fixed-requires
 centre-fixed-requires c κs = let w = whole (c .before .before .before .before .before .before) in (w .fixed-set, w .fixed-out)
