@@ -1,12 +1,13 @@
 -- Document 01's worked cases that are marked to be proved: what the definitions give, beside what the paper says. Definitions only.
 use mathlib.Core.Bool.{Bool, true, false, _&&_}
 use mathlib.Core.List.{List, [], _∷_, _++_, map}
-use Prim.Native.Nat.{ℕ, zero, suc}
+use Prim.Native.Nat.{ℕ, zero, suc, _/_}
 use lib.Dec.{eqb}
+use lib.ListN.{length}
 use lib.Ieee.{Float, binary64, ofBits, toBits}
 use Rattle.lists.specs.Part.{_!_}
-use Rattle.point_moments.specs.Moments.{momentsList, fromPoints, transformed}
-use Rattle.point_moments.specs.Scatter.{meanAndScatter, meanList}
+use Rattle.point_moments.specs.Moments.{momentsList, ofPoints, transformed}
+use Rattle.point_moments.specs.Scatter.{meanAndScatter}
 use Rattle.point_moments.specs.Plane.{planeOf}
 use Rattle.plane_fit.specs.Axis.{smallestAxis}
 use Rattle.frame_sets.specs.Sets.{points}
@@ -17,6 +18,8 @@ use Rattle.point_moments.specs.declared.PointMoments.{PointMoments}
 use Rattle.point_moments.specs.declared.plane.MomentsPlane.{MomentsPlane}
 use Rattle.point_moments.specs.declared.plane.MomentsPlane.the-variants.{Found}
 use Rattle.point_moments.specs.declared.plane.MomentsPlane.the-variants as moments
+use Rattle.point_moments.specs.declared.scatter.MeanAndScatter.{MeanAndScatter}
+use Rattle.point_moments.specs.declared.scatter.MeanAndScatter.the-variants as mean
 use Rattle.square_root.specs.Computed.{squareRoot}
 use Rattle.total_order.specs.declared.Order.{Order}
 use Rattle.total_order.specs.Three.{orderOf}
@@ -85,12 +88,12 @@ rootBits b = toBits binary64 (squareRoot (ofBits binary64 b))
 
 -- of a list of points, by their patterns
 abbrev momentsFrom : List ℕ → PointMoments
-momentsFrom p = fromPoints (numbers p) .moments
+momentsFrom p = ofPoints (length p / 3) (numbers p)
 
--- 1 for found, 0 for none
-abbrev flag : Bool → ℕ
-flag true = 1
-flag false = 0
+-- 1 for found, 0 for none; of mean and scatter with the twelve numbers
+abbrev meanFound : MeanAndScatter → List ℕ
+meanFound (mean.Found x y z xx yx zx xy yy zy xz yz zz) = 1 ∷ patterns (x ∷ y ∷ z ∷ xx ∷ yx ∷ zx ∷ xy ∷ yy ∷ zy ∷ xz ∷ yz ∷ zz ∷ [])
+meanFound mean.NoMean = 0 ∷ []
 
 abbrev found : MomentsPlane → ℕ
 found (Found n0 n1 n2 offset v0 v1 v2) = 1
@@ -118,7 +121,7 @@ caseB = record {
 -- c: the four corners have the mean (1,1,0) and the scatter diagonal 1, 1, 0, rest 0
 unfoldable pub caseC : Case
 caseC = record {
-  found = flag (meanAndScatter (momentsFrom corners) .found) ∷ patterns (meanList (meanAndScatter (momentsFrom corners)));
+  found = meanFound (meanAndScatter (momentsFrom corners));
   paper = 1 ∷ one ∷ one ∷ 0 ∷ one ∷ 0 ∷ 0 ∷ 0 ∷ one ∷ 0 ∷ 0 ∷ 0 ∷ 0 ∷ [];
 }
 

@@ -1,8 +1,11 @@
 // Runs document 01's worked cases and a case of the frame factor in whole numbers through the proved functions and writes what they give; the file `stdout` holds
 // what was worked out on paper.
+ghost use mathlib.Core.Path.{_≡_};
+ghost use Rattle.point_moments.specs.Moments.{withPoint, merged};
 use libc::STDOUT_FILENO;
 use point_moments::PointMoments;
 use point_moments::plane::MomentsPlane;
+use point_moments::scatter::MeanAndScatter;
 
 // The places of three patterns in rising order.
 fn order(label: &[u8], a: u64, b: u64, c: u64) {
@@ -43,10 +46,45 @@ fn list(label: &[u8], numbers: &[f64]) {
     io::write_all(STDOUT_FILENO, b"\n");
 }
 
-// The moments of a list of points.
-fn moments(label: &[u8], points: &[f64]) {
-    let m = PointMoments::from_points(points).moments;
+// The moments of a list of points; of one that is refused, the empty set's.
+fn gathered(points: &[f64]) -> PointMoments {
+    if point_moments::points_refusal(points) != 0 {
+        return PointMoments::empty();
+    }
+    PointMoments::from_points(points)
+}
+
+fn moments(label: &[u8], m: PointMoments) {
     list(label, &m.to_list());
+}
+
+// The mean of a set and the scatter about it.
+fn mean(label: &[u8], m: PointMoments) {
+    match m.mean_and_scatter() {
+        MeanAndScatter::Found(x, y, z, xx, yx, zx, xy, yy, zy, xz, yz, zz) => {
+            list(label, &[x, y, z, xx, yx, zx, xy, yy, zy, xz, yz, zz]);
+        }
+        MeanAndScatter::NoMean => {
+            list(label, &[]);
+        }
+    }
+}
+
+// A record of its own, lent to be given one point more or another set.
+fn pushed(m: PointMoments, p: [f64; 3]) -> PointMoments
+    ensures { λ r. ⌜ r ≡ withPoint m p ⌝ }
+{
+    let mut v = m;
+    lent_moments::push(&mut v, p);
+    v
+}
+
+fn merged(m: PointMoments, other: PointMoments) -> PointMoments
+    ensures { λ r. ⌜ r ≡ merged m other ⌝ }
+{
+    let mut v = m;
+    lent_moments::merge(&mut v, other);
+    v
 }
 
 const CORNERS: [f64; 12] = [0.0, 0.0, 0.0, 2.0, 0.0, 0.0, 0.0, 2.0, 0.0, 2.0, 2.0, 0.0];
@@ -55,7 +93,20 @@ const IDENTITY: [f64; 9] = [1.0, 0.0, 0.0, 0.0, 1.0, 0.0, 0.0, 0.0, 1.0];
 
 fn corners() -> PointMoments {
     let c = CORNERS;
-    PointMoments::from_points(&c).moments
+    gathered(&c)
+}
+
+// The same, each half pushed point by point into a lent record, and the second merged into the first.
+fn halves() -> PointMoments {
+    let near = pushed(
+        pushed(PointMoments::empty(), [0.0, 0.0, 0.0]),
+        [2.0, 0.0, 0.0],
+    );
+    let far = pushed(
+        pushed(PointMoments::empty(), [0.0, 2.0, 0.0]),
+        [2.0, 2.0, 0.0],
+    );
+    merged(near, far)
 }
 
 // Eigenvalues 0, 1e-12 and 200, and the unit axes, by their patterns.
@@ -223,12 +274,12 @@ fn linearize() {
 
 fn main() {
     let point = [1.0, 2.0, 3.0];
-    moments(b"a", &point[0..0]);
-    moments(b"b", &point);
-    let c = corners().mean_and_scatter();
-    list(b"c", &c.to_list());
-    let d = corners().transformed(IDENTITY, [0.0, 0.0, 5.0]);
-    list(b"d", &d.to_list());
+    moments(b"a", gathered(&point[0..0]));
+    moments(b"b", gathered(&point));
+    moments(b"b", pushed(PointMoments::empty(), point));
+    mean(b"c", corners());
+    mean(b"c", halves());
+    moments(b"d", corners().transformed(IDENTITY, [0.0, 0.0, 5.0]));
     order(
         b"e ",
         0x3ff0_0000_0000_0000,
