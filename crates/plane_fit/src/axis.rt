@@ -1,9 +1,9 @@
 // The fit's answer: the axis of least scatter with its offset, or no plane.
-use decomposition::MIN_EIGEN_GAP;
 ghost use mathlib.Core.Path.{_≡_};
 ghost use lib.ListN.{length};
 ghost use Rattle.decomposition.specs.Axes.{DECOMPOSITION};
 ghost use Rattle.plane_fit.specs.Axis.{atLeastOne, smallestAxis};
+use decomposition::MIN_EIGEN_GAP;
 
 // A normal with its offset, or no plane.
 pub enum Fit {

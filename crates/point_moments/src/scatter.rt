@@ -1,8 +1,8 @@
 // The mean of a set of points, the scatter about it, and the set as a centred frame.
 use crate::PointMoments;
 ghost use mathlib.Core.Path.{_≡_};
-ghost use lib.ListN.{length};
 ghost use mathlib.Core.Bool.{true};
+ghost use lib.ListN.{length};
 ghost use Rattle.point_moments.specs.Scatter.{CENTRED, hasMean, meanAndScatter, centred, centredOf, centredList};
 
 pub enum MeanAndScatter {

@@ -70,7 +70,7 @@ fn mean(label: &[u8], m: PointMoments) {
     }
 }
 
-// A record of its own, lent to be given one point more or another set.
+// A local record that is lent, and comes back with one point more, or with another set.
 fn pushed(m: PointMoments, p: [f64; 3]) -> PointMoments
     ensures { λ r. ⌜ r ≡ withPoint m p ⌝ }
 {

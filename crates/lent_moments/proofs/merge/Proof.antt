@@ -23,5 +23,5 @@ merge-spec 𝓤 H 𝓜 𝓖 𝓡 =
     let W = givenOf 𝓤 H 𝓜 𝓖 in
     let 𝓣 = tables 𝓤 H 𝓜 𝓡 code.env in
     entered 𝓤 H (tripleOf 𝓤 H A f.signature (f.spec 𝓤 H A (𝓜 .mem) (𝓡 .run))) (𝓣 .C) (𝓣 .Λ) #f code.function (code.unfolded 𝓤 H 𝓜 𝓡)
-    (meets R (P′.mir) val-of merged 𝓤 H A W (LL.tells P.the-type P′.the-laws) (λ x k. LL.lawful P.the-type P′.the-laws 𝓤 H A W .typed x _ k .0) (LL.makes P.the-type P′.the-plain 𝓤 H A) (λ x. tt) (λ κs x l. refl) #g (tablesOf 𝓤 H 𝓜 𝓣)
+    (meets R (P′.mir) val-of merged 𝓤 H A W (LL.tells P.the-type P′.the-laws) (λ x k. LL.lawful P.the-type P′.the-laws 𝓤 H A W .typed x _ k .0) (LL.makes P.the-type P′.the-plain 𝓤 H A) (λ x. tt) (λ κs x l. refl) #g (tablesOf 𝓤 H 𝓜 𝓣) (f.clauses 𝓤 H A (𝓜 .mem) (𝓡 .run)) refl
     (cited 𝓤 H (Callee R (P′.mir) val-of merged 𝓤 H A) 𝓜 𝓡 code.env #g g-def.routine code.calls-point-moments·PointMoments·merged (g-thm.met 𝓤 H 𝓜 𝓖 𝓡)))
