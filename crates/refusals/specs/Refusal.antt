@@ -30,10 +30,6 @@ abbrev pub kept : {A : Type 0} → ℕ → A → A → A
 kept zero old new = new
 kept (suc k) old new = old
 
-pub kept-old : {A : Type 0} (k : ℕ) (old new : A) → (k ≡ 0 → ⊥) → kept k old new ≡ old
-kept-old zero old new n = absurd (n refl)
-kept-old (suc k) old new n = refl
-
 -- a call's number, and what it leaves
 pub record Answered {A : Type 0} (refusal number : ℕ) (old left new : A) : Type 0 where
   pub number-is : number ≡ refusal
