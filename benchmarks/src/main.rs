@@ -1,7 +1,6 @@
 //! Times the proved library against plain Rust and prints a Markdown table.
 
 mod block_map;
-mod derivative_rows;
 mod fit;
 mod frames;
 mod harness;
@@ -20,7 +19,6 @@ const SUBJECTS: &[Subject] = &[
     ("total_order", total_order::measure_all),
     ("moments", moments::measure_all),
     ("plane", plane::measure_all),
-    ("derivative_rows", derivative_rows::measure_all),
     ("block_map", block_map::measure_all),
     ("fit", fit::measure_all),
     ("frames", frames::measure_all),

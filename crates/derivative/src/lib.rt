@@ -99,15 +99,3 @@ pub fn along_entry(x: &[f64], n: [f64; 3], p: [f64; 3], c: usize) -> f64
     let d = normal_entry(x, AXIS_Z + i, n);
     o + a * p[0] + b * p[1] + d * p[2]
 }
-
-// The derivative of nᵀ(A·p + b) for the action x: a frame's p is its mean, a match's its point.
-pub fn along_row(x: &[f64], n: [f64; 3], p: [f64; 3], width: usize) -> [f64; 9]
-    requires { ⌜ (width ≤ 9) × (actionSize ≤ length (now x)) ⌝ }
-    ensures { λ r. ⌜ r ≡ padded 9 width (dAlong (now (x .entry)) n p) ⌝ }
-{
-    let mut row = [0.0; 9];
-    for c in 0..width {
-        row[c] = along_entry(x, n, p, c);
-    }
-    row
-}

@@ -1,10 +1,9 @@
 // Functions that have no entry point of their own, exported for comparisons and measurements: no part of the C interface.
 ghost use mathlib.Core.Path.{_≡_};
-ghost use Prim.Native.Nat.{_^_, _≤_, _<_};
+ghost use Prim.Native.Nat.{_^_, _<_};
 ghost use lib.Ieee.{binary64, ofBits};
 ghost use Rattle.total_order.specs.Three.{orderOf};
 ghost use Rattle.probe.specs.Digits.{digitsOf};
-ghost use Rattle.probe.specs.Along.{Along};
 ghost use Rattle.probe.specs.Among.{rootAmong};
 
 // The order of three bit patterns, its places as decimal digits.
@@ -51,53 +50,4 @@ pub extern "C" fn probe_sqrt_among(x: f64, other: f64, place: usize, many: usize
     xs[place] = x;
     square_root::many::sqrt_all(&mut xs, many);
     xs[place]
-}
-
-// The derivative row of a plane's distance at a point.
-fn along(action: &[f64], normal: &[f64], point: &[f64], width: usize, row: &mut [f64]) -> u32
-    requires { ⌜ width ≤ 9 ⌝ }
-    ensures { λ r. ⌜ Along width (now (action .entry)) (now (normal .entry)) (now (point .entry)) (now (row .entry)) r (now (row .exit)) ⌝ }
-{
-    if action.len() != 120 {
-        return 3;
-    }
-    if normal.len() != 3 {
-        return 3;
-    }
-    if point.len() != 3 {
-        return 3;
-    }
-    if row.len() != 9 {
-        return 3;
-    }
-    let n = lists::three(normal, 0);
-    let p = lists::three(point, 0);
-    let r = derivative::along_row(action, n, p, width);
-    lists::store(row, &r);
-    0
-}
-
-// The width stands in the code, as where the factors call it.
-#[no_mangle]
-pub extern "C" fn probe_along_row_six(
-    action: &[f64],
-    normal: &[f64],
-    point: &[f64],
-    row: &mut [f64],
-) -> u32
-    ensures { λ r. ⌜ Along 6 (now (action .entry)) (now (normal .entry)) (now (point .entry)) (now (row .entry)) r (now (row .exit)) ⌝ }
-{
-    along(action, normal, point, 6, row)
-}
-
-#[no_mangle]
-pub extern "C" fn probe_along_row_nine(
-    action: &[f64],
-    normal: &[f64],
-    point: &[f64],
-    row: &mut [f64],
-) -> u32
-    ensures { λ r. ⌜ Along 9 (now (action .entry)) (now (normal .entry)) (now (point .entry)) (now (row .entry)) r (now (row .exit)) ⌝ }
-{
-    along(action, normal, point, 9, row)
 }
