@@ -6,7 +6,7 @@ use mathlib.Core.List.{List}
 use lib.ListN.{getD}
 use lib.Ieee.{Float, nan}
 use Rattle.sums.specs.Sum.{_⊗_, sumTo, sumFrom, off}
-use Rattle.sums.specs.Laws.{⊗-comm, sumTo-same, sumFrom-same}
+use Rattle.sums.specs.Laws.{sumTo-same, sumFrom-same}
 use Rattle.sums.specs.Fill.{padded, padded-same, first-of}
 use Rattle.derivative.specs.Action.{entryFrom, originPlace, axisPlace}
 
@@ -45,11 +45,6 @@ rows a b c (suc zero) i = getD b i nan
 rows a b c (suc (suc l)) i = getD c i nan
 
 -- ---- laws
-
--- the two factors of each product may be swapped
-pub combined-comm : (d : ℕ → ℕ → Float) (s : List Float) (i : ℕ) → sumTo 3 (λ l. getD s l nan ⊗ d l i) ≡ combined d s i
-unfolding combined
-combined-comm d s i = sumTo-same 3 _ _ (λ l h. ⊗-comm (getD s l nan) (d l i))
 
 -- of rows that are D's, the sums over three rows are m and P
 

@@ -1,4 +1,4 @@
--- Laws of block maps: words by their size, what an index list makes of a map, and what callers know where reasons 9 and 10 do not apply. Assumes nothing.
+-- Laws of block maps: words by their size, what an index list makes of a map, and what callers know where reason 10 does not apply. Assumes nothing.
 use Prim.Native.Nat.{ℕ, zero, suc, _+_, _-_, _<_, _≤_}
 use mathlib.Core.Path.{_≡_, refl, sym, ap, _∙_}
 use mathlib.Core.Bool.{Bool, true, false, not, _&&_, _||_, cond}
@@ -12,7 +12,7 @@ use borrow.Author.Tests.{eq-eqb, ne-eqb, lt-ltb, le-ltb, ltb-true, ltb-false, eq
 use mathlib.Core.Logic.{⊎-elim}
 use native.Mathlib.Nat.{eq-or-lt-of-le, le-of-suc-le-suc, not-suc-le-zero}
 use Rattle.normal_blocks.specs.Somewhere.{nowhere-at}
-use Rattle.normal_blocks.specs.Map.{kind, low, placeOf, UNMAPPED, badWord, badWordAt, badWords, wordAt, lookup, remapped, exceeds, exceedsAt, someExceeds}
+use Rattle.normal_blocks.specs.Map.{kind, low, placeOf, UNMAPPED, badWord, wordAt, lookup, remapped, exceeds, exceedsAt, someExceeds}
 use Rattle.normal_blocks.specs.declared.Place.{Place}
 use Rattle.normal_blocks.specs.declared.Place.the-variants.{At, Unmapped}
 
@@ -117,11 +117,7 @@ pub lookup-remapped : (m list : List ℕ) (i : ℕ) → lookup (remapped m list)
 unfolding lookup wordAt
 lookup-remapped m list i = ap placeOf (remapped-at m list i) ∙ through m (lookup list i)
 
--- ---- what callers know where reason 9 does not apply, and where reason 10 does not
-pub words-good : (ws : List ℕ) → badWords ws ≡ false → (k : ℕ) → k < length ws → getD ws k 0 ≤ UNMAPPED
-unfolding badWords badWordAt
-words-good ws e k h = ltb-false UNMAPPED (getD ws k 0) (bad-is (getD ws k 0) ∙ nowhere-at (badWordAt ws) (length ws) e k h)
-
+-- ---- what callers know where reason 10 does not apply
 pub fits : (n : ℕ) (width : ℕ → ℕ) (place : ℕ → Place) (count : ℕ) → someExceeds n width place count ≡ false
     → (k : ℕ) → k < count → exceeds n (width k) (place k) ≡ false
 unfolding someExceeds exceedsAt

@@ -9,7 +9,7 @@ use native.Mathlib.Omega.{arith}
 use lib.Dec.{ltb, eqb}
 use lib.ListN.{length}
 use lib.Ieee.{Float}
-use borrow.Author.Tests.{le-ltb, eq-eqb, ltb-false, eqb-true, not-false}
+use borrow.Author.Tests.{ltb-false, eqb-true, not-false}
 use Rattle.refusals.specs.Refusal.{_when_, firstOf, either-none}
 use Rattle.derivative.specs.Action.{actionSize, mostDof}
 use Rattle.point_moments.specs.Scatter.{CENTRED}
@@ -56,10 +56,6 @@ whole-records size most list h =
     let e : length list % size ≡ 0 = eqb-true (length list % size) 0 (not-false _ (p .0)) in
     (omega (arith, div-add-mod' (length list) size, mul-comm size (length list / size)), ltb-false most (length list / size) (p .1))
 
-pub good-records : (size most : ℕ) (list : List Float) → length list % size ≡ 0 → length list / size ≤ most → badRecords size most list ≡ false
-unfolding badRecords
-good-records size most list e h = rw (eq-eqb _ _ e, le-ltb _ _ h)
-
 -- at most one record: nothing, or the record
 pub at-most-one : (size : ℕ) (list : List Float) → badRecords size 1 list ≡ false → (length list ≡ 0) ⊎ (length list ≡ size)
 at-most-one size list h = go (length list / size) refl (whole-records size 1 list h .1)
@@ -74,10 +70,6 @@ whole-frames frames h = whole-records CENTRED mostFrames frames h
 
 pub whole-fixed : (fixed : List Float) → badFixed fixed ≡ false → (length fixed ≡ 0) ⊎ (length fixed ≡ CENTRED)
 whole-fixed fixed h = at-most-one CENTRED fixed h
-
-pub fixed-good : (fixed : List Float) → (length fixed ≡ 0) ⊎ (length fixed ≡ CENTRED) → badFixed fixed ≡ false
-fixed-good fixed (inl e) = good-records CENTRED 1 fixed (rw e) (omega arith)
-fixed-good fixed (inr e) = good-records CENTRED 1 fixed (rw e) (omega arith)
 
 pub one-each : (size : ℕ) (list : List Float) (other : ℕ) (others : List Float) → badCount size list other others ≡ false → length others ≡ other * (length list / size)
 unfolding badCount

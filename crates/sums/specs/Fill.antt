@@ -7,7 +7,7 @@ use native.Mathlib.Nat.{not-suc-le-zero, add-zero, sub-zero, zero-mul, suc-mul, 
 use native.Mathlib.Numerals.{add-one}
 use native.Mathlib.Omega.{arith}
 use lib.Dec.{eqb}
-use lib.ListN.{length, getD, set, length-set, take, drop, replicate, length-append, length-drop, length-replicate, getD-replicate, take-append-drop, drop-of-length-le, List·getD-append}
+use lib.ListN.{length, getD, set, length-set, take, drop, replicate, length-append, length-drop, length-replicate, take-append-drop, drop-of-length-le, List·getD-append}
 use lib.Seq.{getD-set-same, getD-set-other, getD-append-add, getD-take, getD-drop, length-take-le, drop-cons, drop-drop, drop-append-add, take-at, set-at}
 use lib.Ieee.{Float, nan}
 use borrow.Author.Tests.{eqb-true, eqb-false}
@@ -147,11 +147,7 @@ padded-more n k f h =
     let one : tab (k + 1) f ≡ tab k f ++ (f k ∷ []) = rw add-one (tab-more k f) in
     rw (e, set-at (tab k f) zeroF rest (f k) k (length-tab k f), one, append-assoc)
 
-pub length-padded : (n width : ℕ) (f : ℕ → Float) → width ≤ n → length (padded n width f) ≡ n
-unfolding padded
-length-padded n width f h = simp (length-append, length-tab, length-replicate) (omega arith)
-
--- what a caller reads: the first numbers, and the others
+-- what a caller reads: the first numbers
 pub padded-first : (n width : ℕ) (f : ℕ → Float) → First width (padded n width f) f
 unfolding padded
 padded-first n width f k h =
@@ -160,13 +156,6 @@ padded-first n width f k h =
 
 pub first-of : (n width : ℕ) (f : ℕ → Float) (l : List Float) → l ≡ padded n width f → First width l f
 first-of n width f l e k h = rw e (padded-first n width f k h)
-
-pub padded-rest : (n width : ℕ) (f : ℕ → Float) (k : ℕ) → width ≤ k → k < n → getD (padded n width f) k nan ≡ zeroF
-unfolding padded
-padded-rest n width f k h l =
-    let e : k ≡ length (tab width f) + (k - width) = rw length-tab (omega arith) in
-    let m : k - width < n - width = omega arith in
-    rw e (getD-append-add (tab width f) (replicate (n - width) zeroF) (k - width) nan ∙ getD-replicate (n - width) (k - width) zeroF nan m)
 
 -- A loop that fills n zeros from the front: what holds after i turns of `width`, before the first turn, after one more, and at the end.
 pub record Filling (n width : ℕ) (f : ℕ → Float) (row : List Float) (i : ℕ) : Type 0 where

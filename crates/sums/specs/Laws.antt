@@ -10,7 +10,7 @@ use lib.ListN.{length, getD, take, set, length-append, List·getD-append}
 use lib.Seq.{ext-getD, getD-append-add, take-suc, take-suc-set, take-all, take-length}
 use mathlib.Core.Bool.{Bool, true, false}
 use lib.Ieee.{Float, nan, inf, fin, mul, unlike, up, down}
-use Rattle.sums.specs.Sum.{_⊕_, _⊗_, sumTo, sumFrom, tab, grid, off, at, product, transpose, dot}
+use Rattle.sums.specs.Sum.{_⊕_, _⊗_, sumTo, sumFrom, tab, grid, off, at}
 
 -- a number below c + 1 is c or below c
 pub up-to : {P : ℕ → Type 0} (c : ℕ) → P c → ((k : ℕ) → k < c → P k) → (k : ℕ) → k < c + 1 → P k
@@ -33,11 +33,6 @@ pub sumTo-same : (n : ℕ) (f g : ℕ → Float) → ((k : ℕ) → k < n → f 
 sumTo-same zero f g h = refl
 sumTo-same (suc zero) f g h = h 0 (omega arith)
 sumTo-same (suc (suc n)) f g h = cc (sumTo-same (suc n) f g (λ k l. h k (omega arith)), h (suc n) (omega arith))
-
--- Σ goes on from its first term
-pub sumTo-first : (n : ℕ) (f : ℕ → Float) → sumTo (suc n) f ≡ sumFrom (f 0) n (λ k. f (suc k))
-sumTo-first zero f = refl
-sumTo-first (suc n) f = ap (λ s. s ⊕ f (suc n)) (sumTo-first n f)
 
 -- one more term, equal terms, and a sum in two parts, for sums that start from a number
 pub sumFrom-more : (a : Float) (n : ℕ) (f : ℕ → Float) → sumFrom a (n + 1) f ≡ sumFrom a n f ⊕ f n
@@ -63,9 +58,6 @@ unfolding mul
 ⊗-comm (fin s m e) nan = refl
 ⊗-comm (fin s m e) (inf t) = rw (unlike-comm s t)
 ⊗-comm (fin s m e) (fin t n d) = rw (unlike-comm s t, mul-comm (m * up e) (n * up d), mul-comm (down e) (down d))
-
-pub dot-comm : (n : ℕ) (a b : List Float) → dot n a b ≡ dot n b a
-dot-comm n a b = sumTo-same n _ _ (λ k h. ⊗-comm (getD a k nan) (getD b k nan))
 
 pub length-tab : (n : ℕ) (f : ℕ → Float) → length (tab n f) ≡ n
 length-tab zero f = refl
@@ -102,13 +94,6 @@ at-grid rows cols f r c h l = rw off-add (there rows cols f r c h l)
         let t = tab rows (λ r. f r 0) in
         let e : suc c * rows + r ≡ length t + (c * rows + r) = omega (arith, length-tab rows (λ r. f r 0)) in
         rw e (getD-append-add t _ (c * rows + r) nan ∙ there rows cols (λ r c. f r (suc c)) r c h (le-of-suc-le-suc l))
-
--- the entries of a product and of a transposed matrix
-pub at-product : (rows inner cols : ℕ) (a b : List Float) (r c : ℕ) → r < rows → c < cols → at rows (product rows inner cols a b) r c ≡ sumTo inner (λ k. at rows a r k ⊗ at inner b k c)
-at-product rows inner cols a b r c h l = at-grid rows cols _ r c h l
-
-pub at-transpose : (rows cols : ℕ) (a : List Float) (r c : ℕ) → r < cols → c < rows → at cols (transpose rows cols a) r c ≡ at rows a c r
-at-transpose rows cols a r c h l = at-grid cols rows _ r c h l
 
 -- one more column
 pub grid-column : (rows cols : ℕ) (f : ℕ → ℕ → Float) → grid rows (suc cols) f ≡ grid rows cols f ++ tab rows (λ r. f r cols)
