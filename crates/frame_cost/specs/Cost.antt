@@ -1,7 +1,7 @@
 -- What a frame and the fixed set cost under a plane, and all sets of a call. Definitions, and the laws of their sums; assumes nothing.
 -- x is the frame's action, f the centred frame, n the plane's normal and offset its offset.
-use Prim.Native.Nat.{ℕ, suc}
-use native.Mathlib.Omega.{arith}
+use Prim.Native.Nat.{ℕ}
+use native.Mathlib.Nat.{suc-ne-zero}
 use mathlib.Core.Path.{_≡_, refl}
 use mathlib.Core.List.{List, [], _∷_}
 use lib.ListN.{length}
@@ -55,12 +55,9 @@ framesCost frames fixed actions n offset weight =
 
 -- ---- laws: a sum with the fixed set's term, or without one
 
-never : {k : ℕ} → suc k ≡ 0 → ⊥
-never h = omega arith
-
 pub fixed-none : (fixed : List Float) (term : Centred → Float) (sum : Float) → length fixed ≡ 0 → sum ≡ andFixed fixed term sum
 fixed-none [] term sum h = refl
-fixed-none (x ∷ l) term sum h = absurd (never h)
+fixed-none (x ∷ l) term sum h = absurd (suc-ne-zero (length l) h)
 
 pub fixed-some : (fixed : List Float) (term : Centred → Float) (sum : Float) → (length fixed ≡ 0 → ⊥) → sum ⊕ term (centredOf fixed) ≡ andFixed fixed term sum
 fixed-some [] term sum h = absurd (h refl)

@@ -1,6 +1,6 @@
 -- What the callees give of one set is what the definitions say, and where its block lies in the Jacobian. Assumes nothing.
 use Prim.Native.Nat.{ℕ, zero, suc, _+_, _*_, _<_, _≤_}
-use native.Mathlib.Nat.{add-zero, add-mul, mul-assoc, mul-one, mul-le-mul-left, mul-le-mul-right, suc-mul, not-suc-le-zero, le-of-suc-le-suc}
+use native.Mathlib.Nat.{add-zero, add-mul, mul-assoc, mul-one, mul-le-mul-left, mul-le-mul-right, suc-mul, suc-ne-zero, not-suc-le-zero, le-of-suc-le-suc}
 use native.Mathlib.Omega.{arith}
 use mathlib.Core.Path.{_≡_, refl, ap, _∙_}
 use mathlib.Core.List.{List, [], _∷_}
@@ -49,16 +49,13 @@ module _ (frames actions : List Float) (ds : List ℕ) (p : Fitted) (f : ℕ) (r
       ∙ four-is (decompositionAt ds (f + 1)) (frameAt frames f .count) (tab 3 (λ l. dAn (actionAt actions f) (p .normal) l c)) (dAlong (actionAt actions f) (p .normal) (frameAt frames f .mean) c) (p .info) r h
 
 -- of the fixed set, or where there is none
-never : {n : ℕ} → suc n ≡ 0 → ⊥
-never h = omega arith
-
 module _ (count : ℕ) (fixed : List Float) (ds : List ℕ) (n : List Float) (offset info : Float) (out : List Float) (at : ℕ) where
   pub fixed-none : length fixed ≡ 0 → written out at 4 (λ i. replicate 4 zeroF ! i) ≡ written out at 4 (fixedRow count fixed ds n offset info)
   unfolding fixedRow
   fixed-none e = written-same out at 4 _ _ (none fixed e)
     where
       none : (l : List Float) → length l ≡ 0 → (k : ℕ) → k < 4 → replicate 4 zeroF ! k ≡ fixedRow count l ds n offset info k
-      none (x ∷ l) e k h = absurd (never e)
+      none (x ∷ l) e k h = absurd (suc-ne-zero (length l) e)
       none [] e zero h = refl
       none [] e (suc zero) h = refl
       none [] e (suc (suc zero)) h = refl

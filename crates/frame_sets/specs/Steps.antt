@@ -3,7 +3,8 @@ use mathlib.Core.Path.{_≡_, refl, sym, ap, _∙_}
 use mathlib.Core.Logic.{_⊎_, ⊎-elim}
 use mathlib.Core.Bool.{false, true, not}
 use mathlib.Core.List.{List, [], _∷_}
-use Prim.Native.Nat.{ℕ, suc, _+_, _-_, _<_, _≤_}
+use Prim.Native.Nat.{ℕ, _+_, _-_, _<_, _≤_}
+use native.Mathlib.Nat.{suc-ne-zero}
 use native.Mathlib.Omega.{arith}
 use lib.ListN.{length, take, drop, length-take, length-drop}
 use lib.Seq.{drop-drop}
@@ -21,13 +22,10 @@ use Rattle.frame_sets.specs.Sets.{setCount, setAt, countAt, emptyAt, som
 pub one-set : (fixed : List Float) → (length fixed ≡ 0) ⊎ (length fixed ≡ MOMENTS) → (length fixed ≡ 0 → ⊥) → length fixed ≡ MOMENTS
 one-set fixed s h = ⊎-elim (λ e. absurd (h e)) (λ e. e) s
 
-never : {n : ℕ} → suc n ≡ 0 → ⊥
-never h = omega arith
-
 pub count-none : (fixed : List Float) → length fixed ≡ 0 → zeroF ≡ fixedCount fixed
 unfolding fixedCount
 count-none [] h = refl
-count-none (x ∷ l) h = absurd (never h)
+count-none (x ∷ l) h = absurd (suc-ne-zero (length l) h)
 
 pub count-some : (fixed : List Float) → (length fixed ≡ 0 → ⊥) → momentsOf fixed .count ≡ fixedCount fixed
 unfolding fixedCount
@@ -37,7 +35,7 @@ count-some (x ∷ l) h = refl
 pub dropped-none : (fixed : List Float) → length fixed ≡ 0 → false ≡ dropped fixed
 unfolding dropped
 dropped-none [] h = refl
-dropped-none (x ∷ l) h = absurd (never h)
+dropped-none (x ∷ l) h = absurd (suc-ne-zero (length l) h)
 
 pub dropped-some : (fixed : List Float) → (length fixed ≡ 0 → ⊥) → le (momentsOf fixed .count) zeroF ≡ dropped fixed
 unfolding dropped
@@ -55,7 +53,7 @@ fixed-mean fixed n h = ap not (dropped-some fixed n ∙ h)
 pub fixed-none : (fixed old : List Float) → length fixed ≡ 0 → old ≡ centredFixed fixed old
 unfolding centredFixed
 fixed-none [] old h = refl
-fixed-none (x ∷ l) old h = absurd (never h)
+fixed-none (x ∷ l) old h = absurd (suc-ne-zero (length l) h)
 
 pub fixed-dropped : (fixed old : List Float) → dropped fixed ≡ true → old ≡ centredFixed fixed old
 unfolding centredFixed

@@ -1,7 +1,7 @@
 -- The call that accumulates a match list, as the theorem over lists of calls has it: one frame, whose block and vector are the groups' sums. Assumes nothing.
 use Prim.Native.Nat.{ℕ, _*_}
 use mathlib.Core.Path.{_≡_, sym, ap, _∙_}
-use native.Mathlib.Nat.{zero-add}
+use native.Mathlib.Nat.{suc-ne-zero, zero-add}
 use mathlib.Core.Bool.{Bool, false, not}
 use mathlib.Core.List.{List, [], _∷_, _++_}
 use lib.Dec.{eqb}
@@ -23,7 +23,7 @@ use Rattle.call_lists.specs.Calls.{Call, judged}
 use Rattle.call_lists.specs.Frames.{Frames, frameHessian, frameGradient, framed}
 use Rattle.call_lists.specs.Accumulated.{Accumulated}
 use Rattle.call_lists.specs.Outcomes.{accumulated-refused, accumulated-framed}
-use Rattle.map_planes.specs.Reasons.{Numbered, orElse, orElse-some, first-append, neither, suc-no, parts-numbered}
+use Rattle.map_planes.specs.Reasons.{Numbered, orElse, orElse-some, first-append, neither, parts-numbered}
 use Rattle.map_planes.specs.Calls.{fit, matchesReasons, matchesRefusal, listReasons, reasonsAt, reasons-numbered}
 
 -- the call's own inputs
@@ -55,7 +55,7 @@ matchesCall m n w = judged (accumulateRefusal m n w) (framed n (listCost (w .act
 -- ---- laws
 matches-numbered : (dof : ℕ) (ms : List Float) (misfit : Bool) (x : List Float) → Numbered (matchesReasons dof ms misfit x)
 matches-numbered dof ms misfit x =
-    (suc-no 0, (suc-no 1, (suc-no 2, every-append (λ (r : Reason). r .number ≡ 0 → ⊥) (listReasons ms) (8 when not (eqb (length x) actionSize) ∷ []) (parts-numbered (reasonsAt ms) (reasons-numbered ms) (matchCount ms)) (suc-no 7, tt))))
+    (suc-ne-zero 0, (suc-ne-zero 1, (suc-ne-zero 2, every-append (λ (r : Reason). r .number ≡ 0 → ⊥) (listReasons ms) (8 when not (eqb (length x) actionSize) ∷ []) (parts-numbered (reasonsAt ms) (reasons-numbered ms) (matchCount ms)) (suc-ne-zero 7, tt))))
 
 -- the map's reasons come after the list's
 pub map-last : (m n : ℕ) (w : Work)

@@ -3,6 +3,7 @@ use Prim.Native.Nat.{ℕ, _*_, _%_, _≤_}
 use mathlib.Core.Path.{_≡_, sym, _∙_}
 use mathlib.Core.Bool.{Bool, false, not, _||_}
 use mathlib.Core.List.{List, [], _∷_, _++_}
+use native.Mathlib.Nat.{suc-ne-zero}
 use native.Mathlib.Omega.{arith}
 use lib.Dec.{ltb, eqb}
 use lib.ListN.{length}
@@ -13,7 +14,7 @@ use Rattle.terms.specs.Terms.{upto}
 use Rattle.derivative.specs.Action.{actionSize, mostDof}
 use Rattle.map_plane.specs.Match.{MATCH, matchAt, matchReasons}
 use Rattle.match_sums.specs.Groups.{matchCount}
-use Rattle.map_planes.specs.Reasons.{Numbered, first-append, parts-numbered, orElse, neither, suc-no}
+use Rattle.map_planes.specs.Reasons.{Numbered, first-append, parts-numbered, orElse, neither}
 
 -- the most matches of a list
 abbrev pub mostMatches : ℕ
@@ -44,7 +45,7 @@ matchesRefusal dof ms misfit x = firstOf (matchesReasons dof ms misfit x)
 -- ---- laws
 pub reasons-numbered : (ms : List Float) (k : ℕ) → Numbered (reasonsAt ms k)
 unfolding reasonsAt
-reasons-numbered ms k = (suc-no 5, (suc-no 6, tt))
+reasons-numbered ms k = (suc-ne-zero 5, (suc-ne-zero 6, tt))
 
 -- the list's reasons come before what follows them
 pub list-first : (ms : List Float) (rest : List Reason) → firstOf (listReasons ms ++ rest) ≡ orElse (firstOf (listReasons ms)) (firstOf rest)

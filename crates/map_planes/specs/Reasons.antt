@@ -5,8 +5,7 @@ use mathlib.Core.Bool.{Bool, true, false, cond}
 use mathlib.Core.Logic.{⊎-elim}
 use mathlib.Core.List.{List, [], _∷_, _++_}
 use native.Mathlib.Numerals.{add-one}
-use native.Mathlib.Nat.{eq-or-lt-of-le, le-of-suc-le-suc, not-suc-le-zero}
-use native.Mathlib.Omega.{arith}
+use native.Mathlib.Nat.{suc-ne-zero, eq-or-lt-of-le, le-of-suc-le-suc, not-suc-le-zero}
 use Rattle.refusals.specs.Refusal.{Reason, firstOf}
 use Rattle.terms.specs.Terms.{upto}
 use Rattle.call_lists.specs.Lists.{Every}
@@ -56,9 +55,6 @@ module _ (f : ℕ → List Reason) (numbered : (k : ℕ) → Numbered (f k)) whe
       here n q = rw (sym q) (rw h)
 
 -- ---- what is known where no reason applies
-pub suc-no : (k : ℕ) → suc k ≡ 0 → ⊥
-suc-no k q = omega arith
-
 pub neither : (a b : ℕ) → orElse a b ≡ 0 → (a ≡ 0) × (b ≡ 0)
 neither zero b h = (refl, h)
-neither (suc a) b h = absurd (suc-no a h)
+neither (suc a) b h = absurd (suc-ne-zero a h)

@@ -1,8 +1,8 @@
 -- What the loops of the fit have after k frames, and one frame more. Assumes nothing.
 use mathlib.Core.Path.{_≡_, refl, ap₂}
 use native.Mathlib.Numerals.{add-one}
-use Prim.Native.Nat.{ℕ, suc, _+_}
-use native.Mathlib.Omega.{arith}
+use Prim.Native.Nat.{ℕ, _+_}
+use native.Mathlib.Nat.{suc-ne-zero}
 use lib.ListN.{length}
 use mathlib.Core.List.{List, [], _∷_, _++_}
 use lib.Ieee.{Float, binary64, sub}
@@ -43,13 +43,10 @@ part-is frames actions mean x f k e g = ap₂ (λ (y : List Float) (h : Centred)
 
 -- ---- with the fixed set, or without one
 
-never : {n : ℕ} → suc n ≡ 0 → ⊥
-never h = omega arith
-
 pub mean-none : (frames fixed actions : List Float) → length fixed ≡ 0 → meanOf (weighed frames actions (frameCount frames)) ≡ fitMean frames fixed actions
 unfolding fitMean weighted total
 mean-none frames [] actions h = refl
-mean-none frames (x ∷ l) actions h = absurd (never h)
+mean-none frames (x ∷ l) actions h = absurd (suc-ne-zero (length l) h)
 
 pub mean-some : (frames fixed actions : List Float) → (length fixed ≡ 0 → ⊥) → meanOf (withSet (weighed frames actions (frameCount frames)) (centredOf fixed .mean) (centredOf fixed .count)) ≡ fitMean frames fixed actions
 unfolding fitMean weighted total
@@ -59,7 +56,7 @@ mean-some frames (x ∷ l) actions h = refl
 pub scatter-none : (frames fixed actions mean : List Float) → length fixed ≡ 0 → spreadUpto frames actions mean (frameCount frames) ≡ grid 3 3 (scatterAbout frames fixed actions mean)
 unfolding scatterAbout
 scatter-none frames [] actions mean h = refl
-scatter-none frames (x ∷ l) actions mean h = absurd (never h)
+scatter-none frames (x ∷ l) actions mean h = absurd (suc-ne-zero (length l) h)
 
 pub scatter-some : (frames fixed actions mean : List Float) → (length fixed ≡ 0 → ⊥) → plus 9 (spreadUpto frames actions mean (frameCount frames)) (grid 3 3 (spread (centredOf fixed .scatter) (centredOf fixed .mean) (centredOf fixed .count) mean)) ≡ grid 3 3 (scatterAbout frames fixed actions mean)
 unfolding scatterAbout
