@@ -20,9 +20,10 @@ use Rattle.terms.specs.Places.{row-is, column-is}
 pub record Done (n c : ℕ) (f : ℕ → ℕ → Float) (j : List Float) : Type 0 where
   pub cells : (i d : ℕ) → i < n → d < c → j ! cellOf n i d ≡ f i d
 
--- where the first c columns were f's, the first c′ now are
+-- the cells of the columns from c to before c′ are f's, those of every other column are as they were, and there are as many
 pub record Grown (n c c′ : ℕ) (f : ℕ → ℕ → Float) (j j′ : List Float) : Type 0 where
-  pub more : Done n c f j → Done n c′ f j′
+  pub cells : (i d : ℕ) → i < n → c ≤ d → d < c′ → j′ ! cellOf n i d ≡ f i d
+  pub kept : (i d : ℕ) → i < n → (c ≤ d → d < c′ → ⊥) → j′ ! cellOf n i d ≡ j ! cellOf n i d
   pub size : length j′ ≡ length j
 
 -- in row k the cells of w columns from column c on are g's, and every other cell is as it was
@@ -31,9 +32,9 @@ pub record Put (n k c w : ℕ) (g : ℕ → Float) (j j′ : List Float) : Type 
   pub kept : (i d : ℕ) → i < n → (i ≡ k → c ≤ d → d < c + w → ⊥) → j′ ! cellOf n i d ≡ j ! cellOf n i d
   pub size : length j′ ≡ length j
 
--- of w columns from column c on, the first k rows and the first e cells of row k are f's
+-- of w columns from column c on, the first k rows and the first e cells of row k are f's; those of every other column are as they were
 pub record Filled (n c w k e : ℕ) (f : ℕ → ℕ → Float) (j j′ : List Float) : Type 0 where
-  pub kept : (i d : ℕ) → i < n → d < c → j′ ! cellOf n i d ≡ j ! cellOf n i d
+  pub kept : (i d : ℕ) → i < n → (c ≤ d → d < c + w → ⊥) → j′ ! cellOf n i d ≡ j ! cellOf n i d
   pub rows : (i d : ℕ) → i < k → d < w → j′ ! cellOf n i (c + d) ≡ f i (c + d)
   pub row : (d : ℕ) → d < e → j′ ! cellOf n k (c + d) ≡ f k (c + d)
   pub size : length j′ ≡ length j
@@ -67,10 +68,10 @@ put-more n k c w g j j′ v kn l is h = record {
 pub filled-none : (n c w : ℕ) (f : ℕ → ℕ → Float) (j : List Float) → Filled n c w 0 0 f j j
 filled-none n c w f j = record { kept = λ i d h l. refl; rows = λ i d h. absurd (not-suc-le-zero h); row = λ d h. absurd (not-suc-le-zero h); size = refl }
 
-pub filled-put : (n c w k e from width : ℕ) (f : ℕ → ℕ → Float) (j j′ j″ : List Float) → k < n → from ≡ c + e → Put n k from width (f k) j′ j″
+pub filled-put : (n c w k e from width : ℕ) (f : ℕ → ℕ → Float) (j j′ j″ : List Float) → k < n → from ≡ c + e → e + width ≤ w → Put n k from width (f k) j′ j″
     → Filled n c w k e f j j′ → Filled n c w k (e + width) f j j″
-filled-put n c w k e from width f j j′ j″ kn z p h = record {
-  kept = λ i d il dl. p .kept i d il (λ q a b. omega arith) ∙ h .kept i d il dl;
+filled-put n c w k e from width f j j′ j″ kn z fit p h = record {
+  kept = λ i d il out. p .kept i d il (λ q a b. out (omega arith) (omega arith)) ∙ h .kept i d il out;
   rows = λ i d il dl. p .kept i (c + d) (omega arith) (λ q a b. omega arith) ∙ h .rows i d il dl;
   row = λ d dl. go d dl (ltb d e) refl;
   size = p .size ∙ h .size;
@@ -93,24 +94,24 @@ filled-row n c w k f j j′ h = record {
 
 pub filled-all : (n c w k : ℕ) (f : ℕ → ℕ → Float) (j j′ : List Float) → n ≤ k → Filled n c w k 0 f j j′ → Grown n c (c + w) f j j′
 filled-all n c w k f j j′ nk h = record {
-  more = λ done. record {
-    cells = λ i d il dl. go done i d il dl (ltb d c) refl;
-  };
+  cells = λ i d il cd dl. let s : c + (d - c) ≡ d = omega arith in rw s at (h .rows i (d - c) (omega arith) (omega arith));
+  kept = h .kept;
   size = h .size;
 }
-  where
-    go : Done n c f j → (i d : ℕ) → i < n → d < c + w → (b : Bool) → ltb d c ≡ b → j′ ! cellOf n i d ≡ f i d
-    go done i d il dl true q = let l : d < c = ltb-true d c q in h .kept i d il l ∙ done .cells i d il l
-    go done i d il dl false q =
-        let g : c ≤ d = ltb-false d c q in
-        let s : c + (d - c) ≡ d = omega arith in
-        rw s at (h .rows i (d - c) (omega arith) (omega arith))
 
 pub grown-none : (n c : ℕ) (f : ℕ → ℕ → Float) (j : List Float) → Grown n c c f j j
-grown-none n c f j = record { more = λ done. done; size = refl }
+grown-none n c f j = record { cells = λ i d il cd dl. absurd (omega arith); kept = λ i d il out. refl; size = refl }
 
 pub done-none : (n : ℕ) (f : ℕ → ℕ → Float) (j : List Float) → Done n 0 f j
 done-none n f j = record { cells = λ i d h l. absurd (not-suc-le-zero l) }
+
+-- where the first c columns were f's, the first c′ now are
+pub done-more : (n c c′ : ℕ) (f : ℕ → ℕ → Float) (j j′ : List Float) → Grown n c c′ f j j′ → Done n c f j → Done n c′ f j′
+done-more n c c′ f j j′ g done = record { cells = λ i d il dl. go i d il dl (ltb d c) refl }
+  where
+    go : (i d : ℕ) → i < n → d < c′ → (b : Bool) → ltb d c ≡ b → j′ ! cellOf n i d ≡ f i d
+    go i d il dl true q = let l : d < c = ltb-true d c q in g .kept i d il (λ a b. omega arith) ∙ done .cells i d il l
+    go i d il dl false q = g .cells i d il (ltb-false d c q) dl
 
 some-rows : (dof n p : ℕ) → p < dof * n → 0 < n
 some-rows dof zero p h = absurd (not-suc-le-zero (rw mul-zero at h))

@@ -1,6 +1,7 @@
 -- `match_columns::first_three` meets its contract: match after match, its residual and its entries. Assumes nothing.
 use Prim.Native.Nat.{_-_}
 use mathlib.Core.Path.{refl}
+use native.Mathlib.Omega.{arith}
 use borrow.Author.Needs.{needs}
 use Rattle.match_columns.specs.Columns.{filled-put}
 use Rattle.match_columns.specs.Residuals.{rowsBy, Begun, residual-is, begun-none, begun-more, begun-all}
@@ -26,7 +27,7 @@ loop-again c =
     let a = read .before .before .before .before .before .args in
     let f = rowsBy (a .t .now) (a .list .now) in
     let r = residual-is (a .x .now) (a .list .now) _ _ _ _ (l .loop .k) _ (read .matrix .ensures) (l .before .shift .ensures) (turned .mat-vec .ensures) (dot .before .plus3 .ensures) (dot .dot3 .ensures) in
-    let row = filled-put (a .rows) 0 3 (l .loop .k) 0 0 3 f _ (l .loop .out) _ turn refl (put .put-entries .ensures) (l .loop .inv .4) in
+    let row = filled-put (a .rows) 0 3 (l .loop .k) 0 0 3 f _ (l .loop .out) _ turn refl (omega arith) (put .put-entries .ensures) (l .loop .inv .4) in
     begun-more (a .x .now) (a .t .now) (a .list .now) (a .rows) 3 (l .loop .k) (l .loop .residual) _ (l .loop .out) _ _ turn r row (l .loop .inv)
 
 returns : tie.Need-returns Inv-loop μ-loop

@@ -5,7 +5,7 @@ use native.Mathlib.Omega.{arith}
 use lib.ListN.{length}
 use borrow.Author.Needs.{needs}
 use Rattle.map_plane.specs.Match.{MATCH}
-use Rattle.match_columns.specs.Columns.{Done, done-none}
+use Rattle.match_columns.specs.Columns.{Done, done-none, done-more}
 use Rattle.match_columns.specs.Residuals.{rowsBy, rows-all}
 use Rattle.match_columns.proofs.jacobian.Statement.{statement}
 use Rattle.match_columns.proofs.jacobian.Tie as tie
@@ -22,14 +22,14 @@ loop-holds c =
     let did = c .before .before .before .before in
     let told = did .write-first .ensures in
     let start = did .before .before .before .before .before .before .before .before .before in
-    (told .0, told .2 .size ∙ start .pre .3, told .2 .more (done-none _ _ _))
+    (told .0, told .2 .size ∙ start .pre .3, done-more _ _ _ _ _ _ (told .2) (done-none _ _ _))
 
 loop-again : tie.Need-loop-again Inv-loop μ-loop
 loop-again c =
     let did = c .before .before in
     let l = did .before .before .before .before .loop in
     let told = did .write-next .ensures in
-    (told .1, told .2 .size ∙ l .inv .1, told .2 .more (l .inv .2))
+    (told .1, told .2 .size ∙ l .inv .1, done-more _ _ _ _ _ _ (told .2) (l .inv .2))
 
 returns : tie.Need-returns Inv-loop μ-loop
 returns c =

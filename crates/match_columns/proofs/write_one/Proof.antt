@@ -2,6 +2,7 @@
 use Prim.Native.Nat.{_-_, _≤_}
 use mathlib.Core.Path.{_≡_, sym}
 use native.Mathlib.Nat.{add-zero}
+use native.Mathlib.Omega.{arith}
 use lib.ListN.{length}
 use borrow.Author.Needs.{needs}
 use Rattle.match_columns.specs.Columns.{Filled, filled-none, filled-put, filled-row, filled-all}
@@ -21,7 +22,7 @@ loop-again c =
     let put = c .before .before in
     let l = put .before .before .before .before .before .before .before .before .before .before in
     let a = l .before .before .before .args in
-    let row = filled-put (a .rows) (a .c) 1 (l .loop .k) 0 (a .c) 1 (rowsBy (a .t .now) (a .list .now)) _ (l .loop .out) _ (search needs) (sym (add-zero (a .c)))
+    let row = filled-put (a .rows) (a .c) 1 (l .loop .k) 0 (a .c) 1 (rowsBy (a .t .now) (a .list .now)) _ (l .loop .out) _ (search needs) (sym (add-zero (a .c))) (omega arith)
     (put .put-entries .ensures) (l .loop .inv .2) in
     (search needs, row .size, filled-row _ _ 1 _ _ _ _ row)
 
