@@ -1,7 +1,6 @@
 -- All frames of a call under a plane: what each of them adds where, and what they cost with the fixed set. Assumes nothing.
 use Prim.Native.Nat.{ℕ, zero, suc, _+_, _*_, _/_, _%_, _≤_, _<_}
 use native.Mathlib.Numerals.{add-one}
-use native.Mathlib.Nat.{add-zero, add-assoc}
 use mathlib.Core.Path.{_≡_, refl, sym, ap, ap₂, _∙_}
 use native.Mathlib.Omega.{arith}
 use mathlib.Core.Bool.{false}
@@ -9,16 +8,16 @@ use mathlib.Core.List.{List, [], _∷_, _++_}
 use lib.ListN.{length, List·getD-append}
 use lib.Seq.{getD-append-add}
 use lib.Ieee.{Float, nan}
-use Rattle.sums.specs.Sum.{_⊕_, zeroF, sumFromZero, tab}
-use Rattle.sums.specs.Laws.{getD-tab}
+use Rattle.sums.specs.Sum.{_⊕_, zeroF, sumFrom, sumFromZero, tab}
+use Rattle.sums.specs.Laws.{getD-tab, sumFrom-same, sumFrom-parts}
 use Rattle.lists.specs.Part.{_!_}
 use Rattle.terms.specs.Terms.{addAll, upto}
-use Rattle.terms.specs.Laws.{upto-none}
+use Rattle.terms.specs.Laws.{upto-none, upto-joined}
 use Rattle.normal_blocks.specs.declared.Place.{Place}
 use Rattle.normal_blocks.specs.Map.{lookup, exceeds, exceedsAt, someExceeds}
 use Rattle.normal_blocks.specs.Somewhere.{nowhere-none, nowhere-more}
 use Rattle.normal_blocks.specs.Laws.{lookup-past, fits}
-use Rattle.normal_blocks.specs.TargetLaws.{hessian-mapped, gradient-mapped, hessian-unmapped, gradient-unmapped}
+use Rattle.normal_blocks.specs.TargetLaws.{hessian-mapped, gradient-mapped, hessian-unmapped, gradient-unmapped, hessian-same, gradient-same}
 use Rattle.normal_blocks.specs.declared.Place.the-variants.{At, Unmapped}
 use Rattle.normal_blocks.specs.Target.{hessianAt, gradientAt}
 use Rattle.call_lists.specs.Frames.{Frames, frameHessian, frameGradient}
@@ -60,21 +59,44 @@ pub record PartAdded (order : ℕ) (p : Place) (cells : List Float) (k : ℕ) (h
   pub hessian : h′ ≡ addAll h (hessianAt order 3 p (blockIn cells k))
   pub gradient : g′ ≡ addAll g (gradientAt 3 p (vectorIn cells k))
 
--- the loop over the frames, after k of them
-pub record Summed (order dof : ℕ) (frames actions : List Float) (map : List ℕ) (n : List Float) (offset weight : Float) (k : ℕ) (s : Float) (h h′ g g′ : List Float) : Type 0 where
-  pub cost : s ≡ sumFromZero k (costAt frames actions n offset weight)
-  pub hessian : h′ ≡ addAll h (upto k (frameHessian order (framesUnder dof frames actions map n offset weight)))
-  pub gradient : g′ ≡ addAll g (upto k (frameGradient (framesUnder dof frames actions map n offset weight)))
+-- the frames of a batch from frame `from` on, with the pulls that stand in the cells
+abbrev pub framesIn : ℕ → List Float → List Float → List ℕ → List Float → Float → List Float → ℕ → Frames
+framesIn dof frames actions map n weight cells from = record {
+  count = BATCH;
+  place = λ k. lookup map (from + k);
+  width = λ k. dof;
+  block = λ k. blockEntry (actionAt actions (from + k)) (frameAt frames (from + k)) n weight;
+  vector = λ k. pulledEntry (actionAt actions (from + k)) (frameAt frames (from + k)) n (pullIn cells k .turn) (pullIn cells k .shift) weight;
+}
 
--- a batch of `size` frames from `from` on, added up to frame `to`: if its pulls are theirs and the frames before `from` were summed, those before `to` now are
-pub record BatchAdded (order dof : ℕ) (frames actions : List Float) (map : List ℕ) (n : List Float) (weight : Float) (cells : List Float) (from size to : ℕ) (s r : Float) (h h′ g g′ : List Float) : Type 0 where
-  pub more : (offset : Float) (h₀ g₀ : List Float) → Pulled frames actions n offset weight from size cells
-      → Summed order dof frames actions map n offset weight from s h₀ h g₀ g → Summed order dof frames actions map n offset weight to r h₀ h′ g₀ g′
+-- the same by the parts that stand in the cells
+abbrev pub partsIn : List ℕ → List Float → ℕ → Frames
+partsIn map cells from = record { count = BATCH; place = λ k. lookup map (from + k); width = λ k. 3; block = blockIn cells; vector = vectorIn cells }
 
--- the same of a batch of parts, for any frames that they are of
-pub record PartsAdded (order : ℕ) (map : List ℕ) (cells : List Float) (from size to : ℕ) (s r : Float) (h h′ g g′ : List Float) : Type 0 where
-  pub more : (frames actions n : List Float) (offset weight : Float) (h₀ g₀ : List Float) → Beside BATCH PART (λ k. partAt frames actions n offset weight (from + k)) size cells
-      → Summed order 3 frames actions map n offset weight from s h₀ h g₀ g → Summed order 3 frames actions map n offset weight to r h₀ h′ g₀ g′
+-- a loop over frames, after k of them: what they add is added one after the other, and what they cost to a number that was there
+pub record FirstAdded (order : ℕ) (f : Frames) (costs : ℕ → Float) (k : ℕ) (s r : Float) (h h′ g g′ : List Float) : Type 0 where
+  pub cost : r ≡ sumFrom s k costs
+  pub hessian : h′ ≡ addAll h (upto k (frameHessian order f))
+  pub gradient : g′ ≡ addAll g (upto k (frameGradient f))
+
+-- the loop over a call's frames
+abbrev pub Summed : ℕ → ℕ → List Float → List Float → List ℕ → List Float → Float → Float → ℕ → Float → List Float → List Float → List Float → List Float → Type 0
+Summed order dof frames actions map n offset weight k s h h′ g g′ =
+    FirstAdded order (framesUnder dof frames actions map n offset weight) (costAt frames actions n offset weight) k zeroF s h h′ g g′
+
+-- the loop over the frames of a batch, by their pulls and by their parts
+abbrev pub BatchAdded : ℕ → ℕ → List Float → List Float → List ℕ → List Float → Float → List Float → ℕ → ℕ → Float → Float → List Float → List Float → List Float → List Float → Type 0
+BatchAdded order dof frames actions map n weight cells from k s r h h′ g g′ =
+    FirstAdded order (framesIn dof frames actions map n weight cells from) (λ k. pullIn cells k .cost) k s r h h′ g g′
+
+abbrev pub PartsAdded : ℕ → List ℕ → List Float → ℕ → ℕ → Float → Float → List Float → List Float → List Float → List Float → Type 0
+PartsAdded order map cells from k s r h h′ g g′ = FirstAdded order (partsIn map cells from) (costIn cells) k s r h h′ g g′
+
+-- what the frames of a batch add and cost is what those of a call from frame `from` on do
+pub record Continues (order : ℕ) (call batch : Frames) (costs costs′ : ℕ → Float) (from size : ℕ) : Type 0 where
+  pub hessian : (k : ℕ) → k < size → frameHessian order batch k ≡ frameHessian order call (from + k)
+  pub gradient : (k : ℕ) → k < size → frameGradient batch k ≡ frameGradient call (from + k)
+  pub cost : (k : ℕ) → k < size → costs′ k ≡ costs (from + k)
 
 -- all frames with the fixed set
 pub record AllAdded (order dof : ℕ) (frames fixed actions : List Float) (map : List ℕ) (n : List Float) (offset weight r : Float) (h h′ g g′ : List Float) : Type 0 where
@@ -99,6 +121,29 @@ module _ (x : List Float) (f : Centred) (n : List Float) (s : Pull) (weight : Fl
     gradient = gradient-unmapped dof p nowhere (pulledEntry x f n (s .turn) (s .shift) weight) g;
   }
 
+-- a loop over frames: before the first, one more, and a batch after those before it
+module _ (order : ℕ) (f : Frames) (costs : ℕ → Float) where
+  pub first-none : (s : Float) (h g : List Float) → FirstAdded order f costs 0 s s h h g g
+  first-none s h g = record { cost = refl; hessian = upto-none h _; gradient = upto-none g _ }
+
+  pub first-more : (k : ℕ) (p : Place) (e : ℕ → ℕ → Float) (v : ℕ → Float) (x s r : Float) (h h′ h″ g g′ g″ : List Float) → p ≡ f .place k
+      → ((i j : ℕ) → i < f .width k → j < f .width k → e i j ≡ f .block k i j) → ((i : ℕ) → i < f .width k → v i ≡ f .vector k i) → x ≡ costs k
+      → h″ ≡ addAll h′ (hessianAt order (f .width k) p e) → g″ ≡ addAll g′ (gradientAt (f .width k) p v)
+      → FirstAdded order f costs k s r h h′ g g′ → FirstAdded order f costs (k + 1) s (r ⊕ x) h h″ g g″
+  first-more k p e v x s r h h′ h″ g g′ g″ at block vector own added added′ before = record {
+    cost = rw (add-one k) (ap₂ _⊕_ (before .cost) own);
+    hessian = hessian-more f k p at order h h′ h″ e block (before .hessian) added;
+    gradient = gradient-more f k p at g g′ g″ v vector (before .gradient) added′;
+  }
+
+  pub first-joined : (batch : Frames) (costs′ : ℕ → Float) (from size : ℕ) (s₀ s r : Float) (h₀ h h′ g₀ g g′ : List Float) → Continues order f batch costs costs′ from size
+      → FirstAdded order batch costs′ size s r h h′ g g′ → FirstAdded order f costs from s₀ s h₀ h g₀ g → FirstAdded order f costs (from + size) s₀ r h₀ h′ g₀ g′
+  first-joined batch costs′ from size s₀ s r h₀ h h′ g₀ g g′ same added before = record {
+    cost = added .cost ∙ sumFrom-same s size _ _ (same .cost) ∙ rw (before .cost) (sym (sumFrom-parts s₀ from size costs));
+    hessian = added .hessian ∙ upto-joined h₀ h _ _ from size (before .hessian) (same .hessian);
+    gradient = added .gradient ∙ upto-joined g₀ g _ _ from size (before .gradient) (same .gradient);
+  }
+
 module _ (order dof : ℕ) (frames actions : List Float) (map : List ℕ) where
   -- what a call that is ready has at each frame, the two slices being as long as they were
   module _ (cells : ℕ) (ready : Ready cells order dof frames actions map) where
@@ -119,32 +164,14 @@ module _ (order dof : ℕ) (frames actions : List Float) (map : List ℕ) where
     ready-square h g e q = rw (e, q) (ready .square)
 
   module _ (n : List Float) (offset weight : Float) where
-    pub summed-none : (h g : List Float) → Summed order dof frames actions map n offset weight 0 zeroF h h g g
-    summed-none h g = record { cost = refl; hessian = upto-none h _; gradient = upto-none g _ }
-
-    -- one frame more
-    pub summed-more : (k rows : ℕ) (p : Place) (s : Pull) (sum : Float) (h₀ h h′ g₀ g g′ : List Float) → rows ≡ order → p ≡ lookup map k → s ≡ pullAt frames actions n offset weight k
-        → FrameAdded (actionAt actions k) (frameAt frames k) n s weight rows dof p h h′ g g′
-        → Summed order dof frames actions map n offset weight k sum h₀ h g₀ g → Summed order dof frames actions map n offset weight (k + 1) (sum ⊕ s .cost) h₀ h′ g₀ g′
-    unfolding costAt frameCost pullAt vectorEntry
-    summed-more k rows p s sum h₀ h h′ g₀ g g′ el ep es a before =
-        let all = framesUnder dof frames actions map n offset weight in
-        record {
-          cost = rw (add-one k) (ap₂ _⊕_ (before .cost) (ap (λ (q : Pull). q .cost) es));
-          hessian = hessian-more all k p ep order h₀ h h′ _ (λ i j li lj. refl) (before .hessian) (rw el at (a .hessian));
-          gradient = gradient-more all k p ep g₀ g g′ _ (λ i li. refl) (before .gradient) (rw es at (a .gradient));
-        }
-
     -- without a map no frame goes anywhere
     pub summed-unmapped : (k : ℕ) (h g : List Float) → length map ≡ 0 → Summed order dof frames actions map n offset weight k (sumFromZero k (costAt frames actions n offset weight)) h h g g
-    unfolding costAt frameCost pullAt
-    summed-unmapped zero h g e = summed-none h g
+    summed-unmapped zero h g e = first-none order _ _ zeroF h g
     summed-unmapped (suc k) h g e =
-        let before = summed-unmapped k h g e in
+        let all = framesUnder dof frames actions map n offset weight in
         let nowhere : lookup map k ≡ Unmapped = sym (lookup-past map k (omega arith)) in
-        let s = pullAt frames actions n offset weight k in
-        let frame = frame-unmapped (actionAt actions k) (frameAt frames k) n s weight order dof (lookup map k) h g nowhere in
-        rw (add-one k) at (summed-more k order (lookup map k) s _ h h h g g g refl refl refl frame before)
+        rw (add-one k) at (first-more order all _ k (lookup map k) (all .block k) (all .vector k) _ zeroF _ h h h g g g refl (λ i j li lj. refl) (λ i li. refl) refl
+        (hessian-unmapped dof (lookup map k) nowhere order (all .block k) h) (gradient-unmapped dof (lookup map k) nowhere (all .vector k) g) (summed-unmapped k h g e))
 
     -- all of them, and the fixed set
     pub all-added : (fixed : List Float) (count : ℕ) (s r : Float) (h h′ g g′ : List Float) → count ≡ frameCount frames → r ≡ andFixed fixed (λ f. fixedCost f n offset weight) s
@@ -161,24 +188,31 @@ module _ (order dof : ℕ) (frames actions : List Float) (map : List ℕ) where
         → AllAdded order dof frames fixed actions map n offset weight r h h g g
     all-alone fixed count s r h g e none q p = all-added fixed count s r h h g g e p (rw q (summed-unmapped count h g none))
 
-  -- a batch, frame after frame
-  module _ (n : List Float) (weight : Float) (cells : List Float) (from size : ℕ) where
-    pub batch-none : (s : Float) (h g : List Float) → BatchAdded order dof frames actions map n weight cells from size (from + 0) s s h h g g
-    batch-none s h g = record { more = λ offset h₀ g₀ pulled before. rw add-zero before }
-
-    pub batch-more : (k rows : ℕ) (p : Place) (q : Pull) (s r : Float) (h h′ h″ g g′ g″ : List Float) → k < size → rows ≡ order → p ≡ lookup map (from + k) → q ≡ pullIn cells k
+  -- a batch by its pulls: one frame more, and the call's frames with it
+  module _ (n : List Float) (weight : Float) (cells : List Float) (from : ℕ) where
+    pub batch-more : (k rows : ℕ) (p : Place) (q : Pull) (s r : Float) (h h′ h″ g g′ g″ : List Float) → rows ≡ order → p ≡ lookup map (from + k) → q ≡ pullIn cells k
         → FrameAdded (actionAt actions (from + k)) (frameAt frames (from + k)) n q weight rows dof p h′ h″ g′ g″
-        → BatchAdded order dof frames actions map n weight cells from size (from + k) s r h h′ g g′
-        → BatchAdded order dof frames actions map n weight cells from size (from + (k + 1)) s (r ⊕ q .cost) h h″ g g″
-    batch-more k rows p q s r h h′ h″ g g′ g″ l el ep eq a before = record {
-      more = λ offset h₀ g₀ pulled start.
-          rw add-assoc at (summed-more n offset weight (from + k) rows p q r h₀ h′ h″ g₀ g′ g″ el ep (eq ∙ pulled .pulls k l) a (before .more offset h₀ g₀ pulled start));
+        → BatchAdded order dof frames actions map n weight cells from k s r h h′ g g′
+        → BatchAdded order dof frames actions map n weight cells from (k + 1) s (r ⊕ q .cost) h h″ g g″
+    batch-more k rows p q s r h h′ h″ g g′ g″ el ep eq a before =
+        let batch = framesIn dof frames actions map n weight cells from in
+        first-more order batch _ k p (batch .block k) (batch .vector k) (q .cost) s r h h′ h″ g g′ g″ ep (λ i j li lj. refl) (λ i li. refl) (ap (λ (o : Pull). o .cost) eq)
+        (rw el at (a .hessian)) (rw eq at (a .gradient)) before
+
+    batch-continues : (size : ℕ) (offset : Float) → Pulled frames actions n offset weight from size cells
+        → Continues order (framesUnder dof frames actions map n offset weight) (framesIn dof frames actions map n weight cells from) (costAt frames actions n offset weight) (λ k. pullIn cells k .cost) from size
+    unfolding frameHessian frameGradient costAt frameCost pullAt vectorEntry
+    batch-continues size offset pulled = record {
+      hessian = λ k l. refl;
+      gradient = λ k l. ap (λ (q : Pull). gradientAt dof (lookup map (from + k)) (pulledEntry (actionAt actions (from + k)) (frameAt frames (from + k)) n (q .turn) (q .shift) weight)) (pulled .pulls k l);
+      cost = λ k l. ap (λ (q : Pull). q .cost) (pulled .pulls k l);
     }
 
-    pub batch-added : (offset : Float) (rows : ℕ) (s r : Float) (h₀ h h′ g₀ g g′ : List Float) → rows ≡ order → Pulled frames actions n offset weight from size cells
-        → BatchAdded rows dof frames actions map n weight cells from size (from + size) s r h h′ g g′ → Summed order dof frames actions map n offset weight from s h₀ h g₀ g
+    pub batch-added : (size : ℕ) (offset : Float) (rows : ℕ) (s r : Float) (h₀ h h′ g₀ g g′ : List Float) → rows ≡ order → Pulled frames actions n offset weight from size cells
+        → BatchAdded rows dof frames actions map n weight cells from size s r h h′ g g′ → Summed order dof frames actions map n offset weight from s h₀ h g₀ g
         → Summed order dof frames actions map n offset weight (from + size) r h₀ h′ g₀ g′
-    batch-added offset rows s r h₀ h h′ g₀ g g′ e pulled added before = (rw e at added) .more offset h₀ g₀ pulled before
+    batch-added size offset rows s r h₀ h h′ g₀ g g′ e pulled added before =
+        first-joined order _ _ _ _ from size zeroF s r h₀ h h′ g₀ g g′ (batch-continues size offset pulled) (rw e at added) before
 
 -- the numbers of a part are its frame's block, vector and cost
 module _ (x : List Float) (f : Centred) (n : List Float) (offset weight : Float) where
@@ -216,35 +250,24 @@ module _ (order : ℕ) (p : Place) (cells : List Float) (k : ℕ) where
     gradient = gradient-unmapped 3 p nowhere (vectorIn cells k) g;
   }
 
-  -- a part that is frame j's adds that frame
-  part-summed : (map : List ℕ) (frames actions n : List Float) (offset weight : Float) (j : ℕ) (s v : Float) (h₀ h h′ g₀ g g′ : List Float) → p ≡ lookup map j → v ≡ costIn cells k
-      → besideOf BATCH PART cells k ≡ partAt frames actions n offset weight j → PartAdded order p cells k h h′ g g′
-      → Summed order 3 frames actions map n offset weight j s h₀ h g₀ g → Summed order 3 frames actions map n offset weight (j + 1) (s ⊕ v) h₀ h′ g₀ g′
-  unfolding costAt
-  part-summed map frames actions n offset weight j s v h₀ h h′ g₀ g g′ ep ev is a before =
-      let all = framesUnder 3 frames actions map n offset weight in
-      let x = actionAt actions j in
-      let f = frameAt frames j in
-      record {
-        cost = rw (add-one j) (ap₂ _⊕_ (before .cost) (ev ∙ ap (λ l. l ! 12) is ∙ part-cost x f n offset weight));
-        hessian = hessian-more all j p ep order h₀ h h′ (blockIn cells k) (λ i j li lj. ap (λ l. l ! (3 * j + i)) is ∙ part-block x f n offset weight i j li lj) (before .hessian) (a .hessian);
-        gradient = gradient-more all j p ep g₀ g g′ (vectorIn cells k) (λ i li. ap (λ l. l ! (9 + i)) is ∙ part-vector x f n offset weight i li) (before .gradient) (a .gradient);
-      }
+-- a batch by its parts: one frame more, and the call's frames with it
+module _ (order : ℕ) (map : List ℕ) (cells : List Float) (from : ℕ) where
+  pub parts-more : (k : ℕ) (p : Place) (s r v : Float) (h h′ h″ g g′ g″ : List Float) → p ≡ lookup map (from + k) → v ≡ costIn cells k
+      → PartAdded order p cells k h′ h″ g′ g″ → PartsAdded order map cells from k s r h h′ g g′ → PartsAdded order map cells from (k + 1) s (r ⊕ v) h h″ g g″
+  parts-more k p s r v h h′ h″ g g′ g″ ep ev a before =
+      first-more order (partsIn map cells from) _ k p (blockIn cells k) (vectorIn cells k) v s r h h′ h″ g g′ g″ ep (λ i j li lj. refl) (λ i li. refl) ev (a .hessian) (a .gradient) before
 
--- a batch of parts, part after part
-module _ (order : ℕ) (map : List ℕ) (cells : List Float) (from size : ℕ) where
-  pub parts-none : (s : Float) (h g : List Float) → PartsAdded order map cells from size (from + 0) s s h h g g
-  parts-none s h g = record { more = λ frames actions n offset weight h₀ g₀ beside before. rw add-zero before }
-
-  pub parts-more : (k : ℕ) (p : Place) (s r v : Float) (h h′ h″ g g′ g″ : List Float) → k < size → p ≡ lookup map (from + k) → v ≡ costIn cells k
-      → PartAdded order p cells k h′ h″ g′ g″ → PartsAdded order map cells from size (from + k) s r h h′ g g′
-      → PartsAdded order map cells from size (from + (k + 1)) s (r ⊕ v) h h″ g g″
-  parts-more k p s r v h h′ h″ g g′ g″ l ep ev a before = record {
-    more = λ frames actions n offset weight h₀ g₀ beside start.
-        rw add-assoc at (part-summed order p cells k map frames actions n offset weight (from + k) r v h₀ h′ h″ g₀ g′ g″ ep ev (beside .each k l) a (before .more frames actions n offset weight h₀ g₀ beside start));
+  parts-continue : (size : ℕ) (frames actions n : List Float) (offset weight : Float) → Beside BATCH PART (λ k. partAt frames actions n offset weight (from + k)) size cells
+      → Continues order (framesUnder 3 frames actions map n offset weight) (partsIn map cells from) (costAt frames actions n offset weight) (costIn cells) from size
+  unfolding frameHessian frameGradient costAt
+  parts-continue size frames actions n offset weight beside = record {
+    hessian = λ k l. hessian-same order 3 (lookup map (from + k)) (blockIn cells k) _ (λ i j li lj. ap (λ l. l ! (3 * j + i)) (beside .each k l) ∙ part-block (actionAt actions (from + k)) (frameAt frames (from + k)) n offset weight i j li lj);
+    gradient = λ k l. gradient-same 3 (lookup map (from + k)) (vectorIn cells k) _ (λ i li. ap (λ l. l ! (9 + i)) (beside .each k l) ∙ part-vector (actionAt actions (from + k)) (frameAt frames (from + k)) n offset weight i li);
+    cost = λ k l. ap (λ l. l ! 12) (beside .each k l) ∙ part-cost (actionAt actions (from + k)) (frameAt frames (from + k)) n offset weight;
   }
 
-  pub parts-added : (frames actions n : List Float) (offset weight : Float) (rows : ℕ) (s r : Float) (h₀ h h′ g₀ g g′ : List Float) → rows ≡ order
-      → Beside BATCH PART (λ k. partAt frames actions n offset weight (from + k)) size cells → PartsAdded rows map cells from size (from + size) s r h h′ g g′
+  pub parts-added : (size : ℕ) (frames actions n : List Float) (offset weight : Float) (rows : ℕ) (s r : Float) (h₀ h h′ g₀ g g′ : List Float) → rows ≡ order
+      → Beside BATCH PART (λ k. partAt frames actions n offset weight (from + k)) size cells → PartsAdded rows map cells from size s r h h′ g g′
       → Summed order 3 frames actions map n offset weight from s h₀ h g₀ g → Summed order 3 frames actions map n offset weight (from + size) r h₀ h′ g₀ g′
-  parts-added frames actions n offset weight rows s r h₀ h h′ g₀ g g′ e beside added before = (rw e at added) .more frames actions n offset weight h₀ g₀ beside before
+  parts-added size frames actions n offset weight rows s r h₀ h h′ g₀ g g′ e beside added before =
+      first-joined order _ _ _ _ from size zeroF s r h₀ h h′ g₀ g g′ (parts-continue size frames actions n offset weight beside) (rw e at added) before

@@ -127,7 +127,7 @@ fn add_batch(
     sum: f64,
 ) -> f64
     requires { ⌜ (size ≤ BATCH) × (from + size ≤ frameCount (now frames)) × Ready (length (now h)) (length (now g)) dof (now frames) (now actions) (now map) ⌝ }
-    ensures { λ r. ⌜ BatchAdded (length (now (g .entry))) dof (now (frames .entry)) (now (actions .entry)) (now (map .entry)) normal weight (now (pulls .entry)) from size (from + size) sum r (now (h .entry)) (now (h .exit)) (now (g .entry)) (now (g .exit)) ⌝ }
+    ensures { λ r. ⌜ BatchAdded (length (now (g .entry))) dof (now (frames .entry)) (now (actions .entry)) (now (map .entry)) normal weight (now (pulls .entry)) from size sum r (now (h .entry)) (now (h .exit)) (now (g .entry)) (now (g .exit)) ⌝ }
 {
     let mut s = sum;
     for k in 0..size {
@@ -201,7 +201,7 @@ fn add_parts(
     sum: f64,
 ) -> f64
     requires { ⌜ (size ≤ BATCH) × (from + size < 2 ^ 64) × (length (now h) ≡ length (now g) * length (now g)) × (someExceeds (length (now g)) (λ k. 3) (lookup (now map)) (from + size) ≡ false) ⌝ }
-    ensures { λ r. ⌜ PartsAdded (length (now (g .entry))) (now (map .entry)) (now (cells .entry)) from size (from + size) sum r (now (h .entry)) (now (h .exit)) (now (g .entry)) (now (g .exit)) ⌝ }
+    ensures { λ r. ⌜ PartsAdded (length (now (g .entry))) (now (map .entry)) (now (cells .entry)) from size sum r (now (h .entry)) (now (h .exit)) (now (g .entry)) (now (g .exit)) ⌝ }
 {
     let n = g.len();
     let mut s = sum;

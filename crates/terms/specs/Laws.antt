@@ -2,7 +2,7 @@
 use Prim.Native.Nat.{ℕ, zero, suc, _+_, _*_, _≤_, _<_}
 use mathlib.Core.Path.{_≡_, refl, sym, ap, ap₂, _∙_}
 use mathlib.Core.List.{List, [], _∷_, _++_}
-use native.Mathlib.Nat.{suc-mul, mul-le-mul-right}
+use native.Mathlib.Nat.{add-zero, suc-mul, mul-le-mul-right}
 use native.Mathlib.Numerals.{add-one}
 use native.Mathlib.Omega.{arith}
 use lib.ListN.{length, length-set}
@@ -33,6 +33,17 @@ pub upto-more : (h₀ h h′ : List Float) (f : ℕ → List Term) (k : ℕ) →
 unfolding upto
 upto-more h₀ h h′ f k e g =
     g ∙ ap (λ (l : List Float). addAll l (f k)) e ∙ rw (add-one, upto) (sym (addAll-append h₀ (upto k f) (f k)))
+
+-- turns 0 to size - 1 of g that are those of f from turn `from` on, added after the turns before them
+pub upto-joined : (h₀ h : List Float) (f g : ℕ → List Term) (from size : ℕ) → h ≡ addAll h₀ (upto from f) → ((k : ℕ) → k < size → g k ≡ f (from + k))
+    → addAll h (upto size g) ≡ addAll h₀ (upto (from + size) f)
+unfolding upto
+upto-joined h₀ h f g from zero e same = sym (upto-none h g) ∙ rw add-zero e
+upto-joined h₀ h f g from (suc size) e same =
+    let before = upto-joined h₀ h f g from size e (λ k l. same k (omega arith)) in
+    let next : from + suc size ≡ from + size + 1 = omega arith in
+    rw next (upto-more h₀ (addAll h (upto size g)) (addAll h (upto (suc size) g)) f (from + size) before
+    (addAll-append h (upto size g) (g size) ∙ ap (addAll (addAll h (upto size g))) (same size (omega arith))))
 
 -- one number added to cell base + r is turn r of a segment
 pub segment-more : (h₀ h : List Float) (base : ℕ) (e : ℕ → Float) (r : ℕ) (v : Float) → h ≡ addAll h₀ (upto r (cellAt base e)) → v ≡ e r

@@ -1,22 +1,22 @@
 -- `frame_blocks::add_batch` meets its contract: after k turns the batch's first k frames are added and their costs summed. Assumes nothing.
-use Prim.Native.Nat.{_+_, _≤_, _-_}
+use Prim.Native.Nat.{_≤_, _-_}
 use mathlib.Core.Path.{_≡_, refl, _∙_}
 use native.Mathlib.Omega.{arith}
 use borrow.Author.Needs.{needs}
 use lib.ListN.{length}
-use Rattle.frame_blocks.specs.Frames.{BatchAdded, batch-none, batch-more, ready-fits, ready-square, ready-held}
+use Rattle.frame_blocks.specs.Frames.{BatchAdded, first-none, batch-more, ready-fits, ready-square, ready-held}
 use Rattle.frame_blocks.proofs.add_batch.Statement.{statement}
 use Rattle.frame_blocks.proofs.add_batch.Tie as tie
 
 abbrev Inv-loop : tie.InvT-loop
 Inv-loop h₀ g₀ dof frames actions map from size normal weight pulls sum s₀ k₀ h g s k =
-    (k ≤ size) × (length h ≡ length h₀) × (length g ≡ length g₀) × BatchAdded (length g₀) dof frames actions map normal weight pulls from size (from + k) sum s h₀ h g₀ g
+    (k ≤ size) × (length h ≡ length h₀) × (length g ≡ length g₀) × BatchAdded (length g₀) dof frames actions map normal weight pulls from k sum s h₀ h g₀ g
 
 abbrev μ-loop : tie.MeasureT-loop
 μ-loop h₀ g₀ dof frames actions map from size normal weight pulls sum s₀ k₀ h g s k = size - k
 
 loop-holds : tie.Need-loop-holds Inv-loop μ-loop
-loop-holds c = (search needs, refl, refl, batch-none _ _ _ _ _ _ _ _ _ _ _ _ _)
+loop-holds c = (search needs, refl, refl, first-none _ _ _ _ _ _)
 
 add-frame-requires : tie.Need-add-frame-requires Inv-loop μ-loop
 add-frame-requires c κs =
@@ -35,12 +35,13 @@ loop-again c =
     let added = c .before .before .before .before .before in
     let looked = added .before in
     let pulled = looked .before .before .before in
-    let inside = pulled .before in
-    let l = inside .before .loop in (
+    let at = pulled .before .before in
+    let l = at .loop in
+    let cells = at .before .before .before .before .before .before .args .pulls .now in (
       search needs,
       added .add-frame .kept .0 ∙ l .inv .1,
       added .add-frame .kept .1 .0 ∙ l .inv .2,
-      batch-more _ _ _ _ _ _ _ _ _ _ (l .k) _ _ _ _ (l .s) _ (l .h) _ _ (l .g) _ (inside .loop-test .taken) (l .inv .2) (looked .lookup .ensures) (pulled .pull-at .ensures) (added .add-frame .ensures) (l .inv .3),
+      batch-more _ _ _ _ _ _ _ cells _ (l .k) _ _ _ _ (l .s) _ (l .h) _ _ (l .g) _ (l .inv .2) (looked .lookup .ensures) (pulled .pull-at .ensures) (added .add-frame .ensures) (l .inv .3),
     )
 
 returns : tie.Need-returns Inv-loop μ-loop

@@ -6,7 +6,7 @@ use borrow.Author.Needs.{needs}
 use lib.ListN.{length}
 use Rattle.lists.specs.Batch.{batch-fits}
 use Rattle.frame_blocks.specs.Pulls.{PULLS}
-use Rattle.frame_blocks.specs.Frames.{Summed, summed-none, batch-added}
+use Rattle.frame_blocks.specs.Frames.{Summed, first-none, batch-added}
 use Rattle.frame_blocks.proofs.add_frames.Statement.{statement}
 use Rattle.frame_blocks.proofs.add_frames.Tie as tie
 
@@ -18,7 +18,7 @@ abbrev μ-loop : tie.MeasureT-loop
 μ-loop h₀ g₀ dof frames actions map normal offset weight count sum₀ pulls₀ from₀ h g sum pulls from = count - from
 
 loop-holds : tie.Need-loop-holds Inv-loop μ-loop
-loop-holds c = (search needs, refl, refl, refl, summed-none _ _ _ _ _ _ _ _ _ _)
+loop-holds c = (search needs, refl, refl, refl, first-none _ _ _ _ _ _)
 
 fill-pulls-requires : tie.Need-fill-pulls-requires Inv-loop μ-loop
 fill-pulls-requires c κs =

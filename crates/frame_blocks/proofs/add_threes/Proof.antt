@@ -6,7 +6,7 @@ use borrow.Author.Needs.{needs}
 use lib.ListN.{length}
 use Rattle.lists.specs.Batch.{batch-fits}
 use Rattle.frame_parts.specs.Parts.{PARTS}
-use Rattle.frame_blocks.specs.Frames.{Summed, summed-none, parts-added, ready-square, ready-upto}
+use Rattle.frame_blocks.specs.Frames.{Summed, first-none, parts-added, ready-square, ready-upto}
 use Rattle.frame_blocks.proofs.add_threes.Statement.{statement}
 use Rattle.frame_blocks.proofs.add_threes.Tie as tie
 
@@ -18,7 +18,7 @@ abbrev μ-loop : tie.MeasureT-loop
 μ-loop h₀ g₀ frames actions map normal offset weight count sum₀ c₀ from₀ h g sum c from = count - from
 
 loop-holds : tie.Need-loop-holds Inv-loop μ-loop
-loop-holds c = (search needs, refl, refl, refl, summed-none _ _ _ _ _ _ _ _ _ _)
+loop-holds c = (search needs, refl, refl, refl, first-none _ _ _ _ _ _)
 
 fill-parts-requires : tie.Need-fill-parts-requires Inv-loop μ-loop
 fill-parts-requires c κs =
