@@ -62,16 +62,18 @@ pub record PartAdded (order : ℕ) (p : Place) (cells : List Float) (k : ℕ) (h
 -- the frames of a batch from frame `from` on, with the pulls that stand in the cells
 abbrev pub framesIn : ℕ → List Float → List Float → List ℕ → List Float → Float → List Float → ℕ → Frames
 framesIn dof frames actions map n weight cells from = record {
-  count = BATCH;
-  place = λ k. lookup map (from + k);
-  width = λ k. dof;
+  layout = record { count = BATCH; place = λ k. lookup map (from + k); width = λ k. dof };
   block = λ k. blockEntry (actionAt actions (from + k)) (frameAt frames (from + k)) n weight;
   vector = λ k. pulledEntry (actionAt actions (from + k)) (frameAt frames (from + k)) n (pullIn cells k .turn) (pullIn cells k .shift) weight;
 }
 
 -- the same by the parts that stand in the cells
 abbrev pub partsIn : List ℕ → List Float → ℕ → Frames
-partsIn map cells from = record { count = BATCH; place = λ k. lookup map (from + k); width = λ k. 3; block = blockIn cells; vector = vectorIn cells }
+partsIn map cells from = record {
+  layout = record { count = BATCH; place = λ k. lookup map (from + k); width = λ k. 3 };
+  block = blockIn cells;
+  vector = vectorIn cells;
+}
 
 -- a loop over frames, after k of them: what they add is added one after the other, and what they cost to a number that was there
 pub record FirstAdded (order : ℕ) (f : Frames) (costs : ℕ → Float) (k : ℕ) (s r : Float) (h h′ g g′ : List Float) : Type 0 where
@@ -126,9 +128,9 @@ module _ (order : ℕ) (f : Frames) (costs : ℕ → Float) where
   pub first-none : (s : Float) (h g : List Float) → FirstAdded order f costs 0 s s h h g g
   first-none s h g = record { cost = refl; hessian = upto-none h _; gradient = upto-none g _ }
 
-  pub first-more : (k : ℕ) (p : Place) (e : ℕ → ℕ → Float) (v : ℕ → Float) (x s r : Float) (h h′ h″ g g′ g″ : List Float) → p ≡ f .place k
-      → ((i j : ℕ) → i < f .width k → j < f .width k → e i j ≡ f .block k i j) → ((i : ℕ) → i < f .width k → v i ≡ f .vector k i) → x ≡ costs k
-      → h″ ≡ addAll h′ (hessianAt order (f .width k) p e) → g″ ≡ addAll g′ (gradientAt (f .width k) p v)
+  pub first-more : (k : ℕ) (p : Place) (e : ℕ → ℕ → Float) (v : ℕ → Float) (x s r : Float) (h h′ h″ g g′ g″ : List Float) → p ≡ f .layout .place k
+      → ((i j : ℕ) → i < f .layout .width k → j < f .layout .width k → e i j ≡ f .block k i j) → ((i : ℕ) → i < f .layout .width k → v i ≡ f .vector k i) → x ≡ costs k
+      → h″ ≡ addAll h′ (hessianAt order (f .layout .width k) p e) → g″ ≡ addAll g′ (gradientAt (f .layout .width k) p v)
       → FirstAdded order f costs k s r h h′ g g′ → FirstAdded order f costs (k + 1) s (r ⊕ x) h h″ g g″
   first-more k p e v x s r h h′ h″ g g′ g″ at block vector own added added′ before = record {
     cost = rw (add-one k) (ap₂ _⊕_ (before .cost) own);

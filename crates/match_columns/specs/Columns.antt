@@ -14,7 +14,7 @@ use Rattle.sums.specs.Sum.{grid}
 use Rattle.sums.specs.Laws.{length-grid, at-grid, off-add, up-to}
 use Rattle.lists.specs.Part.{_!_}
 use Rattle.terms.specs.Terms.{cellOf}
-use Rattle.terms.specs.Places.{row-is, column-is}
+use Rattle.terms.specs.Places.{same-row, same-column}
 
 -- a matrix of n rows whose first c columns are f's
 pub record Done (n c : ℕ) (f : ℕ → ℕ → Float) (j : List Float) : Type 0 where
@@ -40,12 +40,6 @@ pub record Filled (n c w k e : ℕ) (f : ℕ → ℕ → Float) (j j′ : List F
   pub size : length j′ ≡ length j
 
 -- ---- laws
-same-row : (n i k c d : ℕ) → i < n → k < n → cellOf n i c ≡ cellOf n k d → i ≡ k
-same-row n i k c d l m q = sym (row-is n i c l) ∙ ap (λ (p : ℕ). p % n) q ∙ row-is n k d m
-
-same-column : (n i k c d : ℕ) → i < n → k < n → cellOf n i c ≡ cellOf n k d → c ≡ d
-same-column n i k c d l m q = sym (column-is n i c l) ∙ ap (λ (p : ℕ). p / n) q ∙ column-is n k d m
-
 pub put-none : (n k c : ℕ) (g : ℕ → Float) (j : List Float) → Put n k c 0 g j j
 put-none n k c g j = record { cells = λ d h. absurd (not-suc-le-zero h); kept = λ i d h out. refl; size = refl }
 
@@ -54,13 +48,13 @@ pub put-more : (n k c w : ℕ) (g : ℕ → Float) (j j′ : List Float) (v : Fl
 put-more n k c w g j j′ v kn l is h = record {
   cells = up-to {P = λ d. set j′ (cellOf n k (c + w)) v ! cellOf n k (c + d) ≡ g (c + d)} w (getD-set-same j′ (cellOf n k (c + w)) v nan l ∙ is)
       (λ d dl. getD-set-other j′ (cellOf n k (c + w)) (cellOf n k (c + d)) v nan
-      (λ (z : cellOf n k (c + d) ≡ cellOf n k (c + w)). let s : c + d ≡ c + w = same-column n k k (c + d) (c + w) kn kn z in omega arith)
+      (λ (z : cellOf n k (c + d) ≡ cellOf n k (c + w)). let s : c + d ≡ c + w = same-column n k (c + d) k (c + w) kn kn z in omega arith)
       ∙ h .cells d dl);
   kept = λ i d il out.
       getD-set-other j′ (cellOf n k (c + w)) (cellOf n i d) v nan
       (λ (z : cellOf n i d ≡ cellOf n k (c + w)).
-      let s : d ≡ c + w = same-column n i k d (c + w) il kn z in
-      out (same-row n i k d (c + w) il kn z) (omega arith) (omega arith))
+      let s : d ≡ c + w = same-column n i d k (c + w) il kn z in
+      out (same-row n i d k (c + w) il kn z) (omega arith) (omega arith))
       ∙ h .kept i d il (λ q a b. out q a (omega arith));
   size = length-set j′ (cellOf n k (c + w)) v ∙ h .size;
 }

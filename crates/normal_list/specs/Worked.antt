@@ -26,7 +26,6 @@ use Rattle.call_lists.specs.Segments.{frameSegment}
 use Rattle.call_lists.specs.SegmentLaws.{all-apart}
 use Rattle.call_lists.specs.Calls.{refusal, cost, Made, works}
 use Rattle.call_lists.specs.Frames.{hessianCell, gradientCell}
-use Rattle.total_order.specs.Key.{keyOf}
 use Rattle.total_order.specs.Three.{before, orderOf}
 use Rattle.decomposition.specs.Axes.{risingOf}
 use Rattle.plane_fit.specs.Axis.{smallestAxis, atLeastOne, absolute}
@@ -247,7 +246,7 @@ module _ (r₁ r₂ r₃ r₄ r₅ : Got) (h g h′ g′ : List Float) (lh : len
   settled = rw (lh, lg) at (owners-alone h g (list r₁ r₂ r₃ r₄ r₅) h′ g′ calls (rw (lh, lg)) (rw (lh, lg) apart))
 
   pub worked : Done r₁ r₂ r₃ r₄ r₅ h g h′ g′
-  unfolding ownSegments frameSegment framesRefusal badLengths badRecords badCount badTarget finiteAbove badWords badWordAt badWord somewhere someExceeds exceedsAt exceeds lookup wordAt placeOf upto accumulateRefusal badMatches reasonsAt badPoint badSigma allFinite ofBits add mul sub div neg lt le fitOf smallestAxis atLeastOne absolute risingOf orderOf before keyOf fitMean weighted total countAt weightedAt recordOf pageOf hessianCell gradientCell framesCost costAt frameCost fixedCost costOf scatterOn weightOf blockEntry vectorEntry pulledEntry normalRow combined shifted listCost listBlock listVector byGroups groupSum groupSize costTerm blockTerm vectorTerm residualAt rowAt
+  unfolding ownSegments frameSegment framesRefusal badLengths badRecords badCount badTarget finiteAbove badWords badWordAt badWord somewhere someExceeds exceedsAt exceeds lookup wordAt placeOf upto accumulateRefusal badMatches reasonsAt badPoint badSigma allFinite ofBits add mul sub div neg lt le fitOf smallestAxis atLeastOne absolute risingOf orderOf before fitMean weighted total countAt weightedAt recordOf pageOf hessianCell gradientCell framesCost costAt frameCost fixedCost costOf scatterOn weightOf blockEntry vectorEntry pulledEntry normalRow combined shifted listCost listBlock listVector byGroups groupSum groupSize costTerm blockTerm vectorTerm residualAt rowAt
   worked = record {
     past-refused = settled .answers _ (inl refl);
     seen-costs = settled .answers _ (inr (inl refl));

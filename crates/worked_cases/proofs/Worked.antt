@@ -2,7 +2,6 @@
 use lib.Dec.{T}
 use lib.Ieee.{ofBits, toBits, add, mul, sub, div, neg, lt, le}
 use Rattle.square_root.specs.Computed.{squareRoot, sqrtOf}
-use Rattle.total_order.specs.Key.{keyOf}
 use Rattle.total_order.specs.Three.{before, orderOf}
 use Rattle.decomposition.specs.Axes.{risingOf}
 use Rattle.moment_matrices.specs.Matrices.{movedOuter, scatterOf}
@@ -19,5 +18,5 @@ use Rattle.plane_moments.specs.Build.{badShapes, buildRefusal}
 use Rattle.worked_cases.specs.Table.{every, table, caseA, caseB, caseC, caseD, caseE, caseF, caseG, caseH, caseI, caseJ, caseK}
 
 pub worked : T (every table)
-unfolding table caseA caseB caseC caseD caseE caseF caseG caseH caseI caseJ caseK orderOf before keyOf squareRoot sqrtOf toBits ofBits add mul sub div neg lt le risingOf movedOuter scatterOf withPoint transformed ofPoints meanAndScatter planeOf smallestAxis atLeastOne absolute somewhere allFinite finiteAbove recordOf badRecords badCount fixedCount countAt countSum dropped emptyAt someEmpty tooFew notFinite points badShapes buildRefusal
+unfolding table caseA caseB caseC caseD caseE caseF caseG caseH caseI caseJ caseK orderOf before squareRoot sqrtOf toBits ofBits add mul sub div neg lt le risingOf movedOuter scatterOf withPoint transformed ofPoints meanAndScatter planeOf smallestAxis atLeastOne absolute somewhere allFinite finiteAbove recordOf badRecords badCount fixedCount countAt countSum dropped emptyAt someEmpty tooFew notFinite points badShapes buildRefusal
 worked = tt
