@@ -1,16 +1,54 @@
--- DEMAND 3: what any list of accumulating calls of both factors, refused ones included, does to one Hessian and one gradient. Definitions only.
-use Prim.Native.Nat.{ℕ, suc, _*_, _<_}
+-- DEMAND 3: what a call owns, and what any list of accumulating calls of both factors, refused ones included, does to one Hessian and one gradient.
+-- Definitions only.
+use Prim.Native.Nat.{ℕ, suc, _+_, _*_, _<_, _≤_}
 use mathlib.Core.Path.{_≡_}
 use mathlib.Core.List.{List}
+use mathlib.Core.Logic.{_⊎_}
 use lib.ListN.{length, getD}
 use lib.Ieee.{Float, nan}
 use Rattle.terms.specs.Terms.{cellOf}
+use Rattle.normal_blocks.specs.Map.{lookup}
+use Rattle.normal_blocks.specs.declared.Place.the-variants.{At}
 use Rattle.call_lists.specs.Lists.{In}
 use Rattle.call_lists.specs.Calls.{refusal, Made, works, Chain}
 use Rattle.plane_fit.specs.declared.axis.Fit.the-variants.{NoPlane}
 use Rattle.plane_moments.specs.Accumulate.{framesRefusal, fitOf}
 use Rattle.normal_list.specs.Work.{Work, frames, matches, callOf, Got, answerOf}
-use Rattle.normal_list.specs.Book.{OwnsRow, OwnsCell, Apart, pageOf, hessianBook, gradientBook}
+use Rattle.normal_list.specs.Book.{layoutOf, OwnsRow, OwnsCell, Apart, pageOf, hessianBook, gradientBook}
+
+-- ---- what a call owns, in the paper's words
+
+-- row i is one of the dof rows from the offset
+abbrev pub Among : ℕ → ℕ → ℕ → Type 0
+Among offset dof i = (offset ≤ i) × (i < offset + dof)
+
+-- one of the first `count` frames is mapped, and row i is among its rows
+pub record InFrame (count dof : ℕ) (map : List ℕ) (i : ℕ) : Type 0 where
+  pub frame : ℕ
+  pub exists : frame < count
+  pub offset : ℕ
+  pub mapped : lookup map frame ≡ At offset
+  pub row : Among offset dof i
+
+-- and so is column j
+pub record InOneFrame (count dof : ℕ) (map : List ℕ) (i j : ℕ) : Type 0 where
+  pub frame : ℕ
+  pub exists : frame < count
+  pub offset : ℕ
+  pub mapped : lookup map frame ≡ At offset
+  pub row : Among offset dof i
+  pub column : Among offset dof j
+
+abbrev pub Exactly : Type 0 → Type 0 → Type 0
+Exactly A B = (A → B) × (B → A)
+
+-- WHAT A HOST LOOKS AT, word by word: the rows of any mapped frame of one call end before those of any of the other begin, or the other way round
+abbrev pub WordsApart : Work → Work → Type 0
+WordsApart v w =
+    (k l o p : ℕ) → k < layoutOf v .count → l < layoutOf w .count → layoutOf v .place k ≡ At o → layoutOf w .place l ≡ At p
+    → (o + layoutOf v .width k ≤ p) ⊎ (p + layoutOf w .width l ≤ o)
+
+-- ---- what a list of calls does
 
 -- the calls of a list: each gets the two slices as the one before left them, and does what its contract says
 abbrev pub Calls : List Float → List Float → List (Made Work Got) → List Float → List Float → Type 0

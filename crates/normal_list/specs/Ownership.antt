@@ -1,12 +1,11 @@
 -- WHAT A CALL OWNS, both ways: row i exactly if it is among the rows of one of the call's mapped frames, and cell (i, j) exactly if one such frame's rows have
 -- both; and calls whose words do not meet are apart. Assumes nothing.
-use Prim.Native.Nat.{ℕ, zero, suc, _+_, _<_, _≤_}
+use Prim.Native.Nat.{ℕ, zero, suc}
 use mathlib.Core.Path.{_≡_, refl}
 use mathlib.Core.List.{List}
-use mathlib.Core.Logic.{_⊎_, ⊎-elim}
+use mathlib.Core.Logic.{⊎-elim}
 use native.Mathlib.Omega.{arith}
 use Rattle.normal_blocks.specs.Map.{lookup}
-use Rattle.normal_blocks.specs.declared.Place.the-variants.{At}
 use Rattle.call_lists.specs.Lists.{Some, Pairs}
 use Rattle.call_lists.specs.ListLaws.{pairs-imp}
 use Rattle.call_lists.specs.Segments.{Segment, segmentsOf, Has, HasBoth, HasRow, Disjoint}
@@ -17,30 +16,7 @@ use Rattle.map_planes.specs.Accumulate.{accumulateRefusal}
 use Rattle.map_planes.specs.Accumulate as map_planes
 use Rattle.normal_list.specs.Work.{Work, frames, matches, refusalOf}
 use Rattle.normal_list.specs.Book.{layoutOf, unlessRefused, ownSegments, OwnsRow, OwnsCell, Apart}
-
--- row i is one of the dof rows from the offset
-abbrev pub Among : ℕ → ℕ → ℕ → Type 0
-Among offset dof i = (offset ≤ i) × (i < offset + dof)
-
--- one of the first `count` frames is mapped, and row i is among its rows
-pub record InFrame (count dof : ℕ) (map : List ℕ) (i : ℕ) : Type 0 where
-  pub frame : ℕ
-  pub exists : frame < count
-  pub offset : ℕ
-  pub mapped : lookup map frame ≡ At offset
-  pub row : Among offset dof i
-
--- and so is column j
-pub record InOneFrame (count dof : ℕ) (map : List ℕ) (i j : ℕ) : Type 0 where
-  pub frame : ℕ
-  pub exists : frame < count
-  pub offset : ℕ
-  pub mapped : lookup map frame ≡ At offset
-  pub row : Among offset dof i
-  pub column : Among offset dof j
-
-abbrev pub Exactly : Type 0 → Type 0 → Type 0
-Exactly A B = (A → B) × (B → A)
+use Rattle.normal_list.specs.Demand.{Exactly, InFrame, InOneFrame, WordsApart}
 
 -- ---- an accepted call's own segments are those of its layout, and a refused one has none
 module _ (P : Segment → Type 0) where
@@ -88,12 +64,7 @@ module _ (m n : ℕ) where
   pub matches-cell : (w : map_planes.Work) (i j : ℕ) → Exactly (OwnsCell m n (matches w) i j) ((accumulateRefusal m n w ≡ 0) × InOneFrame 1 (w .dof) (w .map) i j)
   matches-cell w = cell-exactly (matches w) 1 (w .dof) (w .map) refl
 
-  -- ---- WHAT A HOST LOOKS AT, word by word: if the rows of any two mapped frames of two calls do not meet, the calls are apart, whatever else they are handed
-  abbrev pub WordsApart : Work → Work → Type 0
-  WordsApart v w =
-      (k l o p : ℕ) → k < layoutOf v .count → l < layoutOf w .count → layoutOf v .place k ≡ At o → layoutOf w .place l ≡ At p
-      → (o + layoutOf v .width k ≤ p) ⊎ (p + layoutOf w .width l ≤ o)
-
+  -- ---- calls whose words do not meet are apart, whatever else they are handed
   words-disjoint : (v w : Work) → WordsApart v w → Disjoint (ownSegments m n v) (ownSegments m n w)
   unfolding ownSegments
   words-disjoint v w apart i a b =
