@@ -1,5 +1,5 @@
 -- `map_planes::accumulate` meets its contract: the tests in their order, then one frame added. Assumes nothing.
-use mathlib.Core.Path.{sym, _∙_}
+use mathlib.Core.Path.{_≡_, sym, _∙_}
 use native.Mathlib.Omega.{arith}
 use borrow.Author.Needs.{needs}
 use Rattle.normal_blocks.specs.Calls.{mapRefusal}
@@ -20,7 +20,7 @@ returns-2 c =
     let m = c .before in
     let l = m .before .before in
     accumulated-no _ _ _ _ _ _ _
-    (m .map-refusal .ensures ∙ sym (map-decides _ _ _ _ _ (l .before .bad-target .ensures) (l .matches-refusal .ensures) (m .before .if1 .left))) (c .if2 .taken)
+    (m .map-refusal .ensures ∙ sym (map-decides _ _ _ _ _ (l .before .bad-target .ensures) (l .matches-refusal .ensures) (m .before .if1 .left))) (λ z. omega arith)
 
 add-list-requires : tie.Need-add-list-requires
 unfolding mapRefusal
@@ -29,7 +29,8 @@ add-list-requires c κs =
     let m = past .before in
     let l = m .before .before in
     let good = fit _ _ _ _ (sym (l .matches-refusal .ensures) ∙ m .before .if1 .left) in
-    let taken = accepted-list _ _ _ (map-decides _ _ _ _ _ (l .before .bad-target .ensures) (l .matches-refusal .ensures) (m .before .if1 .left) ∙ sym (m .map-refusal .ensures) ∙ past .if2 .left) in
+    let none : m .map-refusal .result ≡ 0 = omega arith in
+    let taken = accepted-list _ _ _ (map-decides _ _ _ _ _ (l .before .bad-target .ensures) (l .matches-refusal .ensures) (m .before .if1 .left) ∙ sym (m .map-refusal .ensures) ∙ none) in
     (good .narrow, good .action-size, taken .square, fits _ _ _ 1 (taken .fits) 0 (omega arith))
 
 returns-3 : tie.Need-returns-3

