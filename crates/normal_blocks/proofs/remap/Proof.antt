@@ -1,7 +1,10 @@
 -- `normal_blocks::remap` meets its contract: the tests in order, then every word. Assumes nothing.
+use mathlib.Core.Path.{_≡_, sym, _∙_}
+use mathlib.Core.Bool.{true, false}
 use borrow.Author.Needs.{needs}
 use borrow.Author.Tests.{lt-ltb, le-ltb, eq-eqb, ne-eqb}
 use Rattle.refusals.specs.Refusal.{refused, accepted}
+use Rattle.normal_blocks.specs.Map.{badWords}
 use Rattle.normal_blocks.specs.Calls.{remapRefusal}
 use Rattle.normal_blocks.proofs.remap.Statement.{statement}
 use Rattle.normal_blocks.proofs.remap.Tie as tie
@@ -29,8 +32,9 @@ unfolding remapRefusal
 returns-5 c =
     let first = c .before .before in
     let sized = first .before .before in
+    let bad : badWords (sized .before .before .before .before .before .before .args .list .now) ≡ true = sym (c .before .bad-words2 .ensures) ∙ c .if5 .taken in
     refused
-    (rw (le-ltb _ _ (sized .before .before .if1 .left), le-ltb _ _ (sized .before .if2 .left), eq-eqb _ _ (sized .if3 .left), ← first .before .bad-words .ensures, first .if4 .left, ← c .before .bad-words2 .ensures, c .if5 .taken))
+    (rw (le-ltb _ _ (sized .before .before .if1 .left), le-ltb _ _ (sized .before .if2 .left), eq-eqb _ _ (sized .if3 .left), ← first .before .bad-words .ensures, first .if4 .left, bad))
 
 returns-6 : tie.Need-returns-6
 unfolding remapRefusal
@@ -39,8 +43,9 @@ returns-6 c =
     let second = written .before .before in
     let first = second .before .before in
     let sized = first .before .before in
+    let good : badWords (sized .before .before .before .before .before .before .args .list .now) ≡ false = sym (second .before .bad-words2 .ensures) ∙ second .if5 .left in
     accepted
-    (rw (le-ltb _ _ (sized .before .before .if1 .left), le-ltb _ _ (sized .before .if2 .left), eq-eqb _ _ (sized .if3 .left), ← first .before .bad-words .ensures, first .if4 .left, ← second .before .bad-words2 .ensures, second .if5 .left))
+    (rw (le-ltb _ _ (sized .before .before .if1 .left), le-ltb _ _ (sized .before .if2 .left), eq-eqb _ _ (sized .if3 .left), ← first .before .bad-words .ensures, first .if4 .left, good))
     (written .write-remapped .ensures)
 
 pub remap-spec : {M : Type 1} → statement M
