@@ -12,7 +12,7 @@ ghost use Rattle.derivative.specs.Action.{actionSize};
 ghost use Rattle.point_moments.specs.Scatter.{CENTRED};
 ghost use Rattle.plane_fit.specs.Records.{recordOf};
 ghost use Rattle.plane_fit.specs.Parts.{BATCH, COLUMNS, partOf, Put, Held, withParts};
-ghost use Rattle.plane_fit.specs.Fit.{Shaped, centre, turned, spread, fitMean, scatterAbout, fitList};
+ghost use Rattle.plane_fit.specs.Fit.{Shaped, frameCount, centre, turned, spread, fitMean, scatterAbout, fitList};
 ghost use Rattle.plane_fit.specs.Calls.{badRecords, badFrames, badFixed, badCount, badActions, fitRefusal};
 ghost use Rattle.plane_fit.specs.Steps.{withSet, weighed, difference, spreadUpto, meanOf};
 use derivative::ACTION;
@@ -90,19 +90,21 @@ impl Weighted {
     }
 }
 
-// The first `count` frames weighed.
-fn weigh(frames: &[f64], actions: &[f64], count: usize) -> Weighted
-    requires { ⌜ (CENTRED * count ≤ length (now frames)) × (actionSize * count ≤ length (now actions)) ⌝ }
-    ensures { λ r. ⌜ r ≡ weighed (now (frames .entry)) (now (actions .entry)) count ⌝ }
+// The frames weighed. The loop ends by the test that `frame` makes, so that the compiler drops the latter.
+fn weigh(frames: &[f64], actions: &[f64]) -> Weighted
+    requires { ⌜ actionSize * frameCount (now frames) ≤ length (now actions) ⌝ }
+    ensures { λ r. ⌜ r ≡ weighed (now (frames .entry)) (now (actions .entry)) (frameCount (now (frames .entry))) ⌝ }
 {
     let mut s = Weighted {
         total: 0.0,
         sum: [0.0; 3],
     };
-    for k in 0..count {
-        let f = Centred::from_list(whole_at(frames, CENTRED, k));
+    let mut k = 0;
+    while k < frames.len() / CENTRED {
+        let f = Centred::from_list(frame(frames, k));
         let w = centre(whole_at(actions, ACTION, k), f);
         s = s.with_set(w, f.count);
+        k += 1;
     }
     s
 }
@@ -244,8 +246,7 @@ pub fn fit_mean(frames: &[f64], fixed: &[f64], actions: &[f64]) -> [f64; 3]
     requires { ⌜ Shaped (now frames) (now fixed) (now actions) ⌝ }
     ensures { λ r. ⌜ r ≡ fitMean (now (frames .entry)) (now (fixed .entry)) (now (actions .entry)) ⌝ }
 {
-    let count = frames.len() / CENTRED;
-    let s = weigh(frames, actions, count);
+    let s = weigh(frames, actions);
     if fixed.len() == 0 {
         return s.mean();
     }

@@ -7,7 +7,7 @@ use Rattle.plane_fit.proofs.fit_mean.Statement.{statement}
 use Rattle.plane_fit.proofs.fit_mean.Tie as tie
 
 weigh-requires : tie.Need-weigh-requires
-weigh-requires c κs = let s = c .before .before .before .pre in (omega arith, omega arith)
+weigh-requires c κs = let s = c .before .before .before .pre in omega arith
 
 returns : tie.Need-returns
 returns c =
