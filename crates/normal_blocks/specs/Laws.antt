@@ -62,7 +62,7 @@ getD-any (x ∷ xs) (suc k) d e h = getD-any xs k d e (le-of-suc-le-suc h)
 
 pub word-inside : (m : List ℕ) (k : ℕ) → k < length m → getD m k 0 ≡ wordAt m (At k)
 unfolding wordAt
-word-inside m k h = getD-any m k 0 UNMAPPED h
+word-inside m k h = getD-any m k 0 _ h
 
 pub word-past : (m : List ℕ) (k : ℕ) → length m ≤ k → UNMAPPED ≡ wordAt m (At k)
 unfolding wordAt

@@ -1,7 +1,8 @@
 -- `plane_moments::accumulate::refusal` meets its contract: the tests in their order. Assumes nothing.
-use mathlib.Core.Path.{sym, ap, _∙_}
-use mathlib.Core.Bool.{not}
+use mathlib.Core.Path.{_≡_, sym, ap, _∙_}
+use mathlib.Core.Bool.{true, not}
 use borrow.Author.Tests.{lt-ltb, le-ltb, eq-eqb, ne-eqb}
+use Rattle.validate.specs.Finite.{finitePositive}
 use Rattle.normal_blocks.specs.Calls.{mapRefusal}
 use Rattle.plane_moments.specs.Accumulate.{framesRefusal}
 use Rattle.plane_moments.proofs.accumulate.refusal.Statement.{statement}
@@ -28,12 +29,8 @@ returns-4 c =
     let p = c .before in
     let b = p .before .before in
     let e = b .before in
-    rw (
-      le-ltb _ _ (e .before .if1 .left),
-      ne-eqb _ _ (e .if2 .left),
-      sym (b .bad-lengths .ensures) ∙ p .before .if3 .left,
-      ap not (sym (p .is-positive .ensures)) ∙ c .if4 .taken,
-    )
+    let bad : not (finitePositive (e .before .before .before .before .before .before .before .args .sigma)) ≡ true = cc in
+    rw (le-ltb _ _ (e .before .if1 .left), ne-eqb _ _ (e .if2 .left), sym (b .bad-lengths .ensures) ∙ p .before .if3 .left, bad)
 
 returns-5 : tie.Need-returns-5
 unfolding framesRefusal

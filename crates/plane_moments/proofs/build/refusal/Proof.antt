@@ -1,6 +1,8 @@
 -- `plane_moments::build::refusal` meets its contract: the tests in their order. Assumes nothing.
-use mathlib.Core.Path.{sym, _∙_}
+use mathlib.Core.Path.{_≡_, sym, _∙_}
+use mathlib.Core.Bool.{true}
 use borrow.Author.Tests.{lt-ltb, le-ltb, eq-eqb, ne-eqb}
+use Rattle.frame_sets.specs.Sets.{someEmpty}
 use Rattle.plane_moments.specs.Build.{buildRefusal, whole-sets}
 use Rattle.plane_moments.proofs.build.refusal.Statement.{statement}
 use Rattle.plane_moments.proofs.build.refusal.Tie as tie
@@ -26,12 +28,8 @@ returns-4 c =
     let s = c .before in
     let b = s .before .before in
     let e = b .before in
-    rw (
-      le-ltb _ _ (e .before .if1 .left),
-      ne-eqb _ _ (e .if2 .left),
-      sym (b .bad-shapes .ensures) ∙ s .before .if3 .left,
-      sym (s .some-empty .ensures) ∙ c .if4 .taken,
-    )
+    let empty : someEmpty (e .before .before .before .before .before .before .args .frames .now) ≡ true = cc in
+    rw (le-ltb _ _ (e .before .if1 .left), ne-eqb _ _ (e .if2 .left), sym (b .bad-shapes .ensures) ∙ s .before .if3 .left, empty)
 
 too-few-requires : tie.Need-too-few-requires
 too-few-requires c κs =
