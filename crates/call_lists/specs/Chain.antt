@@ -1,14 +1,13 @@
 -- Many calls on one Hessian and one gradient, over an abstract call. W is what is handed to a call beside the two slices, R what it returns, `callOf` the
 -- call of W with the two lengths m and n, and `answerOf` what a result says. Assumes nothing.
 use Prim.Native.Nat.{ℕ, _<_}
-use mathlib.Core.Path.{_≡_, refl, sym, ap, ap₂, subst, _∙_}
-use mathlib.Core.List.{List, [], _∷_, _++_, map, List·Permᴰ}
-use mathlib.Core.Logic.{inl, inr}
+use mathlib.Core.Path.{_≡_, refl, sym, ap, subst, _∙_}
+use mathlib.Core.List.{List, [], _∷_, _++_, List·Permᴰ}
 use lib.ListN.{length, getD}
 use lib.Seq.{ext-getD}
 use lib.Ieee.{Float, nan}
-use Rattle.terms.specs.Terms.{Term, cellOf, addAll, atCell}
-use Rattle.terms.specs.Laws.{length-addAll, addAll-none}
+use Rattle.terms.specs.Terms.{Term, addAll, atCell}
+use Rattle.terms.specs.Laws.{length-addAll}
 use Rattle.terms.specs.Places.{same-row}
 use Rattle.call_lists.specs.Lists.{In, Every, Pairs}
 use Rattle.call_lists.specs.ListLaws.{every-in, in-every, every-imp, some-imp, pairs-imp}
@@ -126,12 +125,22 @@ module _ {W R : Type 0} (callOf : ℕ → ℕ → W → Call) (answerOf : R → 
         gradient-apart : (ws : List W) → RowsApart ws → Pairs (λ v w. RowOwner v → RowOwner w → ⊥) ws
         gradient-apart = pairs-imp (λ v w. Disjoint (segmentsIn m n v) (segmentsIn m n w)) (λ v w. RowOwner v → RowOwner w → ⊥) (λ v w f. f k)
 
-    -- WITH ROWS APART: a cell holds what its one owner's terms make of its first content, and a cell without owner keeps it
+    -- WHATEVER THE ROWS: a cell that no call owns keeps its content
+    module _ (m n : ℕ) (h g : List Float) (es : List (Made W R)) (h′ g′ : List Float) (b : Folded m n h g es h′ g′) where
+      pub hessian-unowned : (k : ℕ) → k < m → ((w : W) → In w (works es) → HasPlace n (segmentsIn m n w) k → ⊥) → getD h′ k nan ≡ getD h k nan
+      hessian-unowned k l out =
+          let ws = works es in
+          b .hessian k l ∙ cell-kept (hessianOf m n) k (HasOwner m n k) ws (hessian-claims m n k ws) (in-every (λ (w : W). HasOwner m n k w → ⊥) ws out) (getD h k nan)
+
+      pub gradient-unowned : (i : ℕ) → i < n → ((w : W) → In w (works es) → HasRow i (segmentsIn m n w) → ⊥) → getD g′ i nan ≡ getD g i nan
+      gradient-unowned i l out =
+          let ws = works es in
+          b .gradient i l ∙ cell-kept (gradientOf m n) i (RowOwner m n i) ws (gradient-claims m n i ws) (in-every (λ (w : W). RowOwner m n i w → ⊥) ws out) (getD g i nan)
+
+    -- WITH ROWS APART: a cell holds what its one owner's terms make of its first content
     pub record Settled (m n : ℕ) (h g : List Float) (ws : List W) (h′ g′ : List Float) : Type 0 where
       pub hessian : (k : ℕ) → k < m → (w : W) → In w ws → HasPlace n (segmentsIn m n w) k → getD h′ k nan ≡ atCell k (hessianTerms (callOf m n w)) (getD h k nan)
       pub gradient : (i : ℕ) → i < n → (w : W) → In w ws → HasRow i (segmentsIn m n w) → getD g′ i nan ≡ atCell i (gradientTerms (callOf m n w)) (getD g i nan)
-      pub hessian-kept : (k : ℕ) → k < m → ((w : W) → In w ws → HasPlace n (segmentsIn m n w) k → ⊥) → getD h′ k nan ≡ getD h k nan
-      pub gradient-kept : (i : ℕ) → i < n → ((w : W) → In w ws → HasRow i (segmentsIn m n w) → ⊥) → getD g′ i nan ≡ getD g i nan
 
     pub settled : (m n : ℕ) (h g : List Float) (es : List (Made W R)) (h′ g′ : List Float) → Folded m n h g es h′ g′ → RowsApart m n (works es) → Settled m n h g (works es) h′ g′
     settled m n h g es h′ g′ b apart =
@@ -139,8 +148,6 @@ module _ {W R : Type 0} (callOf : ℕ → ℕ → W → Call) (answerOf : R → 
         record {
           hessian = λ k l w o own. b .hessian k l ∙ cell-owner (hessianOf m n) k (HasOwner m n k) ws (hessian-claims m n k ws) (hessian-apart m n k ws apart) w o own (getD h k nan);
           gradient = λ i l w o own. b .gradient i l ∙ cell-owner (gradientOf m n) i (RowOwner m n i) ws (gradient-claims m n i ws) (gradient-apart m n i ws apart) w o own (getD g i nan);
-          hessian-kept = λ k l out. b .hessian k l ∙ cell-kept (hessianOf m n) k (HasOwner m n k) ws (hessian-claims m n k ws) (in-every (λ (w : W). HasOwner m n k w → ⊥) ws out) (getD h k nan);
-          gradient-kept = λ i l out. b .gradient i l ∙ cell-kept (gradientOf m n) i (RowOwner m n i) ws (gradient-claims m n i ws) (in-every (λ (w : W). RowOwner m n i w → ⊥) ws out) (getD g i nan);
         }
 
     -- two lists of the same works in two orders, each from the same first content, leave the same cells and answer the same

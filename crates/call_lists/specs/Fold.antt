@@ -8,7 +8,7 @@ use mathlib.Core.Logic.{_⊎_, inl, inr, ⊎-elim}
 use lib.Dec.{eqb}
 use lib.ListN.{length, getD}
 use lib.Ieee.{Float, nan}
-use borrow.Author.Tests.{eqb-true, eqb-false}
+use borrow.Author.Tests.{eqb-true}
 use Rattle.terms.specs.Terms.{Term, addAll, addIf, atCell}
 use Rattle.terms.specs.Laws.{length-addAll}
 use Rattle.terms.specs.Cells.{getD-addAll}

@@ -1,5 +1,5 @@
 -- Laws of calls that are made of frames: they add to cells of their own segments alone, and what they make of each cell, frame by frame. Assumes nothing.
-use Prim.Native.Nat.{ℕ, zero, suc, _+_, _*_, _≤_, _<_}
+use Prim.Native.Nat.{ℕ, zero, suc, _+_, _≤_, _<_}
 use mathlib.Core.Path.{_≡_, refl, ap, _∙_}
 use mathlib.Core.Bool.{false}
 use mathlib.Core.List.{List}
@@ -17,9 +17,9 @@ use Rattle.normal_blocks.specs.Target.{hessianAt, gradientAt}
 use Rattle.normal_blocks.specs.TargetLaws.{hessian-same, gradient-same}
 use Rattle.call_lists.specs.Lists.{Every}
 use Rattle.call_lists.specs.ListLaws.{every-upto, some-upto, every-imp}
-use Rattle.call_lists.specs.Segments.{Segment, segmentAt, frameSegment, segmentsOf, Has, HasBoth, HasRow, HasCell}
+use Rattle.call_lists.specs.Segments.{segmentAt, frameSegment, segmentsOf, Has, HasBoth, HasRow}
 use Rattle.call_lists.specs.Calls.{hessianTerms, gradientTerms, HasPlace, Tame}
-use Rattle.call_lists.specs.Frames.{Frames, frameHessian, frameGradient, framed, idle, entryAdded, numberAdded, hessianCell, gradientCell}
+use Rattle.call_lists.specs.Frames.{Frames, frameHessian, frameGradient, framed, entryAdded, numberAdded, hessianCell, gradientCell}
 
 -- ---- a loop over frames: one frame more, at the place that was looked up, with entries that were worked out
 module _ (f : Frames) (k : ℕ) (p : Place) (at : p ≡ f .layout .place k) where
@@ -36,36 +36,6 @@ module _ (f : Frames) (k : ℕ) (p : Place) (at : p ≡ f .layout .place k) wher
   gradient-more g₀ g g′ v same before added =
       let entries = gradient-same (f .layout .width k) (f .layout .place k) v (f .vector k) same in
       upto-more g₀ g g′ (frameGradient f) k before (added ∙ rw at (ap (addAll g) entries))
-
--- ---- a frame that fits adds only inside its own segment
-hessian-inside : (n width : ℕ) (p : Place) (e : ℕ → ℕ → Float) → exceeds n width p ≡ false → Every (λ t. HasPlace n (segmentAt width p) (t .cell)) (hessianAt n width p e)
-unfolding hessianAt block columnAt segment cellAt
-hessian-inside n width (At o) e f =
-    let fit : o + width ≤ n = fits-at n width o (At o) refl f in
-    every-upto (λ (t : Term). HasPlace n (segmentAt width (At o)) (t .cell)) width _
-    (λ c lc. every-upto (λ (t : Term). HasPlace n (segmentAt width (At o)) (t .cell)) width _
-    (λ r lr. ((o + r, o + c, omega arith, omega arith, inl ((omega arith, omega arith), (omega arith, omega arith))), tt)))
-hessian-inside n width Unmapped e f = tt
-
-gradient-inside : (width : ℕ) (p : Place) (v : ℕ → Float) → Every (λ t. HasRow (t .cell) (segmentAt width p)) (gradientAt width p v)
-unfolding gradientAt segment cellAt
-gradient-inside width (At o) v = every-upto (λ (t : Term). HasRow (t .cell) (segmentAt width (At o))) width _ (λ r lr. (inl (omega arith, omega arith), tt))
-gradient-inside width Unmapped v = tt
-
--- and so does a call with a plane, where reason 10 does not apply
-pub framed-tame : (n : ℕ) (x : Float) (f : Frames) → someExceeds n (f .layout .width) (f .layout .place) (f .layout .count) ≡ false → Tame n (segmentsOf (f .layout)) (framed n x f)
-unfolding frameSegment frameHessian frameGradient
-framed-tame n x f out =
-    let l = f .layout in
-    record {
-      hessian = every-upto (λ (t : Term). HasPlace n (segmentsOf l) (t .cell)) (l .count) _
-          (λ k h. every-imp (λ (t : Term). HasPlace n (segmentAt (l .width k) (l .place k)) (t .cell)) (λ (t : Term). HasPlace n (segmentsOf l) (t .cell))
-          (λ t s. (s .0, s .1, s .2, s .3, some-upto (HasBoth (s .0) (s .1)) (l .count) (frameSegment l) k h (s .4))) (frameHessian n f k)
-          (hessian-inside n (l .width k) (l .place k) (f .block k) (fits n (l .width) (l .place) (l .count) out k h)));
-      gradient = every-upto (λ (t : Term). HasRow (t .cell) (segmentsOf l)) (l .count) _
-          (λ k h. every-imp (λ (t : Term). HasRow (t .cell) (segmentAt (l .width k) (l .place k))) (λ (t : Term). HasRow (t .cell) (segmentsOf l))
-          (λ t s. some-upto (Has (t .cell)) (l .count) (frameSegment l) k h s) (frameGradient f k) (gradient-inside (l .width k) (l .place k) (f .vector k)));
-    }
 
 -- ---- one cell, frame by frame
 frame-entry : (n width : ℕ) (p : Place) (e : ℕ → ℕ → Float) (i j : ℕ) → exceeds n width p ≡ false → i < n → (y : Float)
@@ -101,3 +71,33 @@ numbers f (suc k) i y =
 
 pub framed-gradient : (n : ℕ) (x : Float) (f : Frames) (i : ℕ) (y : Float) → atCell i (gradientTerms (framed n x f)) y ≡ gradientCell f (f .layout .count) i y
 framed-gradient n x f i y = numbers f (f .layout .count) i y
+
+-- ---- a frame that fits adds only inside its own segment
+hessian-inside : (n width : ℕ) (p : Place) (e : ℕ → ℕ → Float) → exceeds n width p ≡ false → Every (λ t. HasPlace n (segmentAt width p) (t .cell)) (hessianAt n width p e)
+unfolding hessianAt block columnAt segment cellAt
+hessian-inside n width (At o) e f =
+    let fit : o + width ≤ n = fits-at n width o (At o) refl f in
+    every-upto (λ (t : Term). HasPlace n (segmentAt width (At o)) (t .cell)) width _
+    (λ c lc. every-upto (λ (t : Term). HasPlace n (segmentAt width (At o)) (t .cell)) width _
+    (λ r lr. ((o + r, o + c, omega arith, omega arith, inl ((omega arith, omega arith), (omega arith, omega arith))), tt)))
+hessian-inside n width Unmapped e f = tt
+
+gradient-inside : (width : ℕ) (p : Place) (v : ℕ → Float) → Every (λ t. HasRow (t .cell) (segmentAt width p)) (gradientAt width p v)
+unfolding gradientAt segment cellAt
+gradient-inside width (At o) v = every-upto (λ (t : Term). HasRow (t .cell) (segmentAt width (At o))) width _ (λ r lr. (inl (omega arith, omega arith), tt))
+gradient-inside width Unmapped v = tt
+
+-- and so does a call with a plane, where reason 10 does not apply
+pub framed-tame : (n : ℕ) (x : Float) (f : Frames) → someExceeds n (f .layout .width) (f .layout .place) (f .layout .count) ≡ false → Tame n (segmentsOf (f .layout)) (framed n x f)
+unfolding frameSegment frameHessian frameGradient
+framed-tame n x f out =
+    let l = f .layout in
+    record {
+      hessian = every-upto (λ (t : Term). HasPlace n (segmentsOf l) (t .cell)) (l .count) _
+          (λ k h. every-imp (λ (t : Term). HasPlace n (segmentAt (l .width k) (l .place k)) (t .cell)) (λ (t : Term). HasPlace n (segmentsOf l) (t .cell))
+          (λ t s. (s .0, s .1, s .2, s .3, some-upto (HasBoth (s .0) (s .1)) (l .count) (frameSegment l) k h (s .4))) (frameHessian n f k)
+          (hessian-inside n (l .width k) (l .place k) (f .block k) (fits n (l .width) (l .place) (l .count) out k h)));
+      gradient = every-upto (λ (t : Term). HasRow (t .cell) (segmentsOf l)) (l .count) _
+          (λ k h. every-imp (λ (t : Term). HasRow (t .cell) (segmentAt (l .width k) (l .place k))) (λ (t : Term). HasRow (t .cell) (segmentsOf l))
+          (λ t s. some-upto (Has (t .cell)) (l .count) (frameSegment l) k h s) (frameGradient f k) (gradient-inside (l .width k) (l .place k) (f .vector k)));
+    }

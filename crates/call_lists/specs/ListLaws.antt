@@ -1,7 +1,7 @@
 -- Laws of membership, and of what holds of every element of a list, of some, or of each two. Assumes nothing.
 use Prim.Native.Nat.{ℕ, zero, suc, _<_}
-use mathlib.Core.Path.{_≡_, refl, sym, ap, subst, subst₂}
-use mathlib.Core.List.{List, [], _∷_, _++_, map, List·Permᴰ}
+use mathlib.Core.Path.{_≡_, refl, sym, subst, subst₂}
+use mathlib.Core.List.{List, [], _∷_, _++_, List·Permᴰ}
 use mathlib.Core.List.{List·Permᴰ·nil, List·Permᴰ·cons, List·Permᴰ·swap, List·Permᴰ·trans}
 use mathlib.Core.Logic.{_⊎_, inl, inr, ⊎-elim}
 use native.Mathlib.Nat.{not-suc-le-zero, eq-or-lt-of-le, le-of-suc-le-suc}
@@ -84,12 +84,3 @@ module _ {A : Type 0} where
   pairs-perm R back (List·Permᴰ·swap {l = l} e₁ e₂) h =
       ((subst₂ R e₂ e₁ (back _ _ (h .0 .0)), subst (λ (a : A). Every (R a) l) e₂ (h .1 .0)), (subst (λ (a : A). Every (R a) l) e₁ (h .0 .1), h .1 .1))
   pairs-perm R back (List·Permᴰ·trans d₁ d₂) h = pairs-perm R back d₂ (pairs-perm R back d₁ h)
-
-module _ {A B : Type 0} (f : A → B) where
-  pub every-map : (P : B → Type 0) (xs : List A) → Every (λ a. P (f a)) xs → Every P (map f xs)
-  every-map P [] h = tt
-  every-map P (x ∷ xs) h = (h .0, every-map P xs (h .1))
-
-  pub pairs-map : (R : B → B → Type 0) (xs : List A) → Pairs (λ a b. R (f a) (f b)) xs → Pairs R (map f xs)
-  pairs-map R [] h = tt
-  pairs-map R (x ∷ xs) h = (every-map (R (f x)) xs (h .0), pairs-map R xs (h .1))

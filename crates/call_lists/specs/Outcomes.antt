@@ -5,9 +5,9 @@ use mathlib.Core.List.{List}
 use lib.Ieee.{Float}
 use Rattle.terms.specs.Terms.{addAll, upto}
 use Rattle.terms.specs.Laws.{addAll-none}
-use Rattle.call_lists.specs.Calls.{refusal, cost, Call, judged}
+use Rattle.call_lists.specs.Calls.{cost, Call, judged}
 use Rattle.call_lists.specs.Frames.{Frames, frameHessian, frameGradient, framed, idle}
-use Rattle.call_lists.specs.Accumulated.{told, Accumulated}
+use Rattle.call_lists.specs.Accumulated.{Accumulated}
 
 module _ (h g : List Float) (x : Float) where
   pub accumulated-refused : (r k : ℕ) (c : Call) → k ≡ r → (k ≡ 0 → ⊥) → Accumulated (judged r c) h g x k h g x

@@ -28,9 +28,9 @@ use Rattle.plane_fit.specs.Fit.{frameCount, frameAt, actionAt, andFixed}
 use Rattle.frame_segment.specs.Frame.{blockEntry, pulledEntry}
 use Rattle.frame_segment.specs.Steps.{Added, Held}
 use Rattle.frame_parts.specs.Frame.{vectorEntry}
-use Rattle.frame_blocks.specs.Pulls.{BATCH, pullAt, pullIn, Pulled}
-use Rattle.frame_parts.specs.Parts.{PART, partOf, partAt, blockIn, vectorIn, costIn}
-use Rattle.batches.specs.Beside.{besideOf, Beside}
+use Rattle.frame_blocks.specs.Pulls.{pullAt, pullIn, Pulled}
+use Rattle.frame_parts.specs.Parts.{BATCH, PART, partOf, partAt, blockIn, vectorIn, costIn}
+use Rattle.batches.specs.Beside.{Beside}
 use Rattle.frame_cost.specs.Cost.{frameCost, fixedCost, costAt, framesCost}
 use Rattle.frame_cost.specs.declared.Pull.{Pull}
 
@@ -59,18 +59,18 @@ pub record PartAdded (order : ℕ) (p : Place) (cells : List Float) (k : ℕ) (h
   pub hessian : h′ ≡ addAll h (hessianAt order 3 p (blockIn cells k))
   pub gradient : g′ ≡ addAll g (gradientAt 3 p (vectorIn cells k))
 
--- the frames of a batch from frame `from` on, with the pulls that stand in the cells
-abbrev pub framesIn : ℕ → List Float → List Float → List ℕ → List Float → Float → List Float → ℕ → Frames
-framesIn dof frames actions map n weight cells from = record {
-  layout = record { count = BATCH; place = λ k. lookup map (from + k); width = λ k. dof };
+-- `size` frames from frame `from` on, with the pulls that stand in the cells
+abbrev pub framesIn : ℕ → List Float → List Float → List ℕ → List Float → Float → List Float → ℕ → ℕ → Frames
+framesIn dof frames actions map n weight cells from size = record {
+  layout = record { count = size; place = λ k. lookup map (from + k); width = λ k. dof };
   block = λ k. blockEntry (actionAt actions (from + k)) (frameAt frames (from + k)) n weight;
   vector = λ k. pulledEntry (actionAt actions (from + k)) (frameAt frames (from + k)) n (pullIn cells k .turn) (pullIn cells k .shift) weight;
 }
 
 -- the same by the parts that stand in the cells
-abbrev pub partsIn : List ℕ → List Float → ℕ → Frames
-partsIn map cells from = record {
-  layout = record { count = BATCH; place = λ k. lookup map (from + k); width = λ k. 3 };
+abbrev pub partsIn : List ℕ → List Float → ℕ → ℕ → Frames
+partsIn map cells from size = record {
+  layout = record { count = size; place = λ k. lookup map (from + k); width = λ k. 3 };
   block = blockIn cells;
   vector = vectorIn cells;
 }
@@ -86,13 +86,16 @@ abbrev pub Summed : ℕ → ℕ → List Float → List Float → List ℕ → L
 Summed order dof frames actions map n offset weight k s h h′ g g′ =
     FirstAdded order (framesUnder dof frames actions map n offset weight) (costAt frames actions n offset weight) k zeroF s h h′ g g′
 
--- the loop over the frames of a batch, by their pulls and by their parts
+-- all frames of a batch, by their pulls and by their parts
 abbrev pub BatchAdded : ℕ → ℕ → List Float → List Float → List ℕ → List Float → Float → List Float → ℕ → ℕ → Float → Float → List Float → List Float → List Float → List Float → Type 0
-BatchAdded order dof frames actions map n weight cells from k s r h h′ g g′ =
-    FirstAdded order (framesIn dof frames actions map n weight cells from) (λ k. pullIn cells k .cost) k s r h h′ g g′
+BatchAdded order dof frames actions map n weight cells from size s r h h′ g g′ =
+    let batch = framesIn dof frames actions map n weight cells from size in
+    FirstAdded order batch (λ k. pullIn cells k .cost) (batch .layout .count) s r h h′ g g′
 
 abbrev pub PartsAdded : ℕ → List ℕ → List Float → ℕ → ℕ → Float → Float → List Float → List Float → List Float → List Float → Type 0
-PartsAdded order map cells from k s r h h′ g g′ = FirstAdded order (partsIn map cells from) (costIn cells) k s r h h′ g g′
+PartsAdded order map cells from size s r h h′ g g′ =
+    let batch = partsIn map cells from size in
+    FirstAdded order batch (costIn cells) (batch .layout .count) s r h h′ g g′
 
 -- what the frames of a batch add and cost is what those of a call from frame `from` on do
 pub record Continues (order : ℕ) (call batch : Frames) (costs costs′ : ℕ → Float) (from size : ℕ) : Type 0 where
@@ -191,30 +194,30 @@ module _ (order dof : ℕ) (frames actions : List Float) (map : List ℕ) where
     all-alone fixed count s r h g e none q p = all-added fixed count s r h h g g e p (rw q (summed-unmapped count h g none))
 
   -- a batch by its pulls: one frame more, and the call's frames with it
-  module _ (n : List Float) (weight : Float) (cells : List Float) (from : ℕ) where
+  module _ (n : List Float) (weight : Float) (cells : List Float) (from size : ℕ) where
     pub batch-more : (k rows : ℕ) (p : Place) (q : Pull) (s r : Float) (h h′ h″ g g′ g″ : List Float) → rows ≡ order → p ≡ lookup map (from + k) → q ≡ pullIn cells k
         → FrameAdded (actionAt actions (from + k)) (frameAt frames (from + k)) n q weight rows dof p h′ h″ g′ g″
-        → BatchAdded order dof frames actions map n weight cells from k s r h h′ g g′
-        → BatchAdded order dof frames actions map n weight cells from (k + 1) s (r ⊕ q .cost) h h″ g g″
+        → FirstAdded order (framesIn dof frames actions map n weight cells from size) (λ k. pullIn cells k .cost) k s r h h′ g g′
+        → FirstAdded order (framesIn dof frames actions map n weight cells from size) (λ k. pullIn cells k .cost) (k + 1) s (r ⊕ q .cost) h h″ g g″
     batch-more k rows p q s r h h′ h″ g g′ g″ el ep eq a before =
-        let batch = framesIn dof frames actions map n weight cells from in
+        let batch = framesIn dof frames actions map n weight cells from size in
         first-more order batch _ k p (batch .block k) (batch .vector k) (q .cost) s r h h′ h″ g g′ g″ ep (λ i j li lj. refl) (λ i li. refl) (ap (λ (o : Pull). o .cost) eq)
         (rw el at (a .hessian)) (rw eq at (a .gradient)) before
 
-    batch-continues : (size : ℕ) (offset : Float) → Pulled frames actions n offset weight from size cells
-        → Continues order (framesUnder dof frames actions map n offset weight) (framesIn dof frames actions map n weight cells from) (costAt frames actions n offset weight) (λ k. pullIn cells k .cost) from size
+    batch-continues : (offset : Float) → Pulled frames actions n offset weight from size cells
+        → Continues order (framesUnder dof frames actions map n offset weight) (framesIn dof frames actions map n weight cells from size) (costAt frames actions n offset weight) (λ k. pullIn cells k .cost) from size
     unfolding frameHessian frameGradient costAt frameCost pullAt vectorEntry
-    batch-continues size offset pulled = record {
+    batch-continues offset pulled = record {
       hessian = λ k l. refl;
       gradient = λ k l. ap (λ (q : Pull). gradientAt dof (lookup map (from + k)) (pulledEntry (actionAt actions (from + k)) (frameAt frames (from + k)) n (q .turn) (q .shift) weight)) (pulled .pulls k l);
       cost = λ k l. ap (λ (q : Pull). q .cost) (pulled .pulls k l);
     }
 
-    pub batch-added : (size : ℕ) (offset : Float) (rows : ℕ) (s r : Float) (h₀ h h′ g₀ g g′ : List Float) → rows ≡ order → Pulled frames actions n offset weight from size cells
+    pub batch-added : (offset : Float) (rows : ℕ) (s r : Float) (h₀ h h′ g₀ g g′ : List Float) → rows ≡ order → Pulled frames actions n offset weight from size cells
         → BatchAdded rows dof frames actions map n weight cells from size s r h h′ g g′ → Summed order dof frames actions map n offset weight from s h₀ h g₀ g
         → Summed order dof frames actions map n offset weight (from + size) r h₀ h′ g₀ g′
-    batch-added size offset rows s r h₀ h h′ g₀ g g′ e pulled added before =
-        first-joined order _ _ _ _ from size zeroF s r h₀ h h′ g₀ g g′ (batch-continues size offset pulled) (rw e at added) before
+    batch-added offset rows s r h₀ h h′ g₀ g g′ e pulled added before =
+        first-joined order _ _ _ _ from size zeroF s r h₀ h h′ g₀ g g′ (batch-continues offset pulled) (rw e at added) before
 
 -- the numbers of a part are its frame's block, vector and cost
 module _ (x : List Float) (f : Centred) (n : List Float) (offset weight : Float) where
@@ -253,23 +256,24 @@ module _ (order : ℕ) (p : Place) (cells : List Float) (k : ℕ) where
   }
 
 -- a batch by its parts: one frame more, and the call's frames with it
-module _ (order : ℕ) (map : List ℕ) (cells : List Float) (from : ℕ) where
+module _ (order : ℕ) (map : List ℕ) (cells : List Float) (from size : ℕ) where
   pub parts-more : (k : ℕ) (p : Place) (s r v : Float) (h h′ h″ g g′ g″ : List Float) → p ≡ lookup map (from + k) → v ≡ costIn cells k
-      → PartAdded order p cells k h′ h″ g′ g″ → PartsAdded order map cells from k s r h h′ g g′ → PartsAdded order map cells from (k + 1) s (r ⊕ v) h h″ g g″
+      → PartAdded order p cells k h′ h″ g′ g″ → FirstAdded order (partsIn map cells from size) (costIn cells) k s r h h′ g g′
+      → FirstAdded order (partsIn map cells from size) (costIn cells) (k + 1) s (r ⊕ v) h h″ g g″
   parts-more k p s r v h h′ h″ g g′ g″ ep ev a before =
-      first-more order (partsIn map cells from) _ k p (blockIn cells k) (vectorIn cells k) v s r h h′ h″ g g′ g″ ep (λ i j li lj. refl) (λ i li. refl) ev (a .hessian) (a .gradient) before
+      first-more order (partsIn map cells from size) _ k p (blockIn cells k) (vectorIn cells k) v s r h h′ h″ g g′ g″ ep (λ i j li lj. refl) (λ i li. refl) ev (a .hessian) (a .gradient) before
 
-  parts-continue : (size : ℕ) (frames actions n : List Float) (offset weight : Float) → Beside BATCH PART (λ k. partAt frames actions n offset weight (from + k)) size cells
-      → Continues order (framesUnder 3 frames actions map n offset weight) (partsIn map cells from) (costAt frames actions n offset weight) (costIn cells) from size
+  parts-continue : (frames actions n : List Float) (offset weight : Float) → Beside BATCH PART (λ k. partAt frames actions n offset weight (from + k)) size cells
+      → Continues order (framesUnder 3 frames actions map n offset weight) (partsIn map cells from size) (costAt frames actions n offset weight) (costIn cells) from size
   unfolding frameHessian frameGradient costAt
-  parts-continue size frames actions n offset weight beside = record {
+  parts-continue frames actions n offset weight beside = record {
     hessian = λ k l. hessian-same order 3 (lookup map (from + k)) (blockIn cells k) _ (λ i j li lj. ap (λ l. l ! (3 * j + i)) (beside .each k l) ∙ part-block (actionAt actions (from + k)) (frameAt frames (from + k)) n offset weight i j li lj);
     gradient = λ k l. gradient-same 3 (lookup map (from + k)) (vectorIn cells k) _ (λ i li. ap (λ l. l ! (9 + i)) (beside .each k l) ∙ part-vector (actionAt actions (from + k)) (frameAt frames (from + k)) n offset weight i li);
     cost = λ k l. ap (λ l. l ! 12) (beside .each k l) ∙ part-cost (actionAt actions (from + k)) (frameAt frames (from + k)) n offset weight;
   }
 
-  pub parts-added : (size : ℕ) (frames actions n : List Float) (offset weight : Float) (rows : ℕ) (s r : Float) (h₀ h h′ g₀ g g′ : List Float) → rows ≡ order
+  pub parts-added : (frames actions n : List Float) (offset weight : Float) (rows : ℕ) (s r : Float) (h₀ h h′ g₀ g g′ : List Float) → rows ≡ order
       → Beside BATCH PART (λ k. partAt frames actions n offset weight (from + k)) size cells → PartsAdded rows map cells from size s r h h′ g g′
       → Summed order 3 frames actions map n offset weight from s h₀ h g₀ g → Summed order 3 frames actions map n offset weight (from + size) r h₀ h′ g₀ g′
-  parts-added size frames actions n offset weight rows s r h₀ h h′ g₀ g g′ e beside added before =
-      first-joined order _ _ _ _ from size zeroF s r h₀ h h′ g₀ g g′ (parts-continue size frames actions n offset weight beside) (rw e at added) before
+  parts-added frames actions n offset weight rows s r h₀ h h′ g₀ g g′ e beside added before =
+      first-joined order _ _ _ _ from size zeroF s r h₀ h h′ g₀ g g′ (parts-continue frames actions n offset weight beside) (rw e at added) before

@@ -3,7 +3,6 @@
 use Prim.Native.Nat.{ℕ, suc, _+_, _*_, _<_, _≤_}
 use mathlib.Core.Path.{_≡_}
 use mathlib.Core.List.{List}
-use mathlib.Core.Logic.{_⊎_}
 use lib.ListN.{length, getD}
 use lib.Ieee.{Float, nan}
 use Rattle.terms.specs.Terms.{cellOf}
@@ -42,11 +41,11 @@ pub record InOneFrame (count dof : ℕ) (map : List ℕ) (i j : ℕ) : Type 0 wh
 abbrev pub Exactly : Type 0 → Type 0 → Type 0
 Exactly A B = (A → B) × (B → A)
 
--- WHAT A HOST LOOKS AT, word by word: the rows of any mapped frame of one call end before those of any of the other begin, or the other way round
+-- WHAT A HOST LOOKS AT, word by word: no row is among the rows of a mapped frame of one call and among those of a mapped frame of the other
 abbrev pub WordsApart : Work → Work → Type 0
 WordsApart v w =
-    (k l o p : ℕ) → k < layoutOf v .count → l < layoutOf w .count → layoutOf v .place k ≡ At o → layoutOf w .place l ≡ At p
-    → (o + layoutOf v .width k ≤ p) ⊎ (p + layoutOf w .width l ≤ o)
+    (k l o p i : ℕ) → k < layoutOf v .count → l < layoutOf w .count → layoutOf v .place k ≡ At o → layoutOf w .place l ≡ At p
+    → Among o (layoutOf v .width k) i → Among p (layoutOf w .width l) i → ⊥
 
 -- ---- what a list of calls does
 
@@ -54,25 +53,23 @@ WordsApart v w =
 abbrev pub Calls : List Float → List Float → List (Made Work Got) → List Float → List Float → Type 0
 Calls = Chain callOf answerOf
 
--- WHATEVER THE ROWS: each call has answered as its page has it, and each cell holds what the book makes of its first content
+-- WHATEVER THE ROWS: each call has answered as its page has it, each cell holds what the book makes of its first content, and a cell that no call owns keeps it
 pub record InTheBook (m n : ℕ) (h g : List Float) (es : List (Made Work Got)) (h′ g′ : List Float) : Type 0 where
   pub answers : (e : Made Work Got) → In e es → answerOf (e .got) ≡ pageOf m n (e .work) .answer
   pub hessian : (i j : ℕ) → i < n → j < n → getD h′ (cellOf n i j) nan ≡ hessianBook m n (works es) i j (getD h (cellOf n i j) nan)
   pub gradient : (i : ℕ) → i < n → getD g′ i nan ≡ gradientBook m n (works es) i (getD g i nan)
-  pub hessian-length : length h′ ≡ m
-  pub gradient-length : length g′ ≡ n
-
--- WITH ROWS APART: a cell holds what the page of the one call that owns it makes of its first content, and a cell that no call owns keeps it
-pub record OwnersAlone (m n : ℕ) (h g : List Float) (es : List (Made Work Got)) (h′ g′ : List Float) : Type 0 where
-  pub answers : (e : Made Work Got) → In e es → answerOf (e .got) ≡ pageOf m n (e .work) .answer
-  pub hessian : (i j : ℕ) → i < n → j < n → (w : Work) → In w (works es) → OwnsCell m n w i j
-      → getD h′ (cellOf n i j) nan ≡ pageOf m n w .hessian i j (getD h (cellOf n i j) nan)
-  pub gradient : (i : ℕ) → i < n → (w : Work) → In w (works es) → OwnsRow m n w i → getD g′ i nan ≡ pageOf m n w .gradient i (getD g i nan)
   pub hessian-kept : (i j : ℕ) → i < n → j < n → ((w : Work) → In w (works es) → OwnsCell m n w i j → ⊥)
       → getD h′ (cellOf n i j) nan ≡ getD h (cellOf n i j) nan
   pub gradient-kept : (i : ℕ) → i < n → ((w : Work) → In w (works es) → OwnsRow m n w i → ⊥) → getD g′ i nan ≡ getD g i nan
   pub hessian-length : length h′ ≡ m
   pub gradient-length : length g′ ≡ n
+
+-- AND WITH ROWS APART: a cell holds what the page of the one call that owns it makes of its first content
+pub record OwnersAlone (m n : ℕ) (h g : List Float) (es : List (Made Work Got)) (h′ g′ : List Float) : Type 0 where
+  pub booked : InTheBook m n h g es h′ g′
+  pub hessian : (i j : ℕ) → i < n → j < n → (w : Work) → In w (works es) → OwnsCell m n w i j
+      → getD h′ (cellOf n i j) nan ≡ pageOf m n w .hessian i j (getD h (cellOf n i j) nan)
+  pub gradient : (i : ℕ) → i < n → (w : Work) → In w (works es) → OwnsRow m n w i → getD g′ i nan ≡ pageOf m n w .gradient i (getD g i nan)
 
 -- NO CALL ACCEPTED: each is refused by 1, 2 or 3, and both slices are as they were
 pub record AllRefused (h g : List Float) (es : List (Made Work Got)) (h′ g′ : List Float) : Type 0 where

@@ -1,14 +1,12 @@
 -- WHAT A CALL OWNS, both ways: row i exactly if it is among the rows of one of the call's mapped frames, and cell (i, j) exactly if one such frame's rows have
--- both; and calls whose words do not meet are apart. Assumes nothing.
+-- both; and calls whose mapped frames have no row in common are apart. Assumes nothing.
 use Prim.Native.Nat.{ℕ, zero, suc}
 use mathlib.Core.Path.{_≡_, refl}
 use mathlib.Core.List.{List}
-use mathlib.Core.Logic.{⊎-elim}
-use native.Mathlib.Omega.{arith}
 use Rattle.normal_blocks.specs.Map.{lookup}
 use Rattle.call_lists.specs.Lists.{Some, Pairs}
 use Rattle.call_lists.specs.ListLaws.{pairs-imp}
-use Rattle.call_lists.specs.Segments.{Segment, segmentsOf, Has, HasBoth, HasRow, Disjoint}
+use Rattle.call_lists.specs.Segments.{Segment, segmentsOf, Has, HasBoth, Disjoint}
 use Rattle.call_lists.specs.SegmentLaws.{frame-of, of-frame}
 use Rattle.plane_fit.specs.Fit.{frameCount}
 use Rattle.plane_moments.specs.Accumulate.{FramesWork, framesRefusal}
@@ -64,14 +62,13 @@ module _ (m n : ℕ) where
   pub matches-cell : (w : map_planes.Work) (i j : ℕ) → Exactly (OwnsCell m n (matches w) i j) ((accumulateRefusal m n w ≡ 0) × InOneFrame 1 (w .dof) (w .map) i j)
   matches-cell w = cell-exactly (matches w) 1 (w .dof) (w .map) refl
 
-  -- ---- calls whose words do not meet are apart, whatever else they are handed
+  -- ---- calls whose mapped frames have no row in common, word by word, are apart, whatever else they are handed
   words-disjoint : (v w : Work) → WordsApart v w → Disjoint (ownSegments m n v) (ownSegments m n w)
   unfolding ownSegments
   words-disjoint v w apart i a b =
       let f = frame-of (Has i) (layoutOf v) (unless-some (Has i) (refusalOf m n v) (segmentsOf (layoutOf v)) a .1) in
       let g = frame-of (Has i) (layoutOf w) (unless-some (Has i) (refusalOf m n w) (segmentsOf (layoutOf w)) b .1) in
-      ⊎-elim (λ h. omega (arith, f .4 .0, f .4 .1, g .4 .0, g .4 .1)) (λ h. omega (arith, f .4 .0, f .4 .1, g .4 .0, g .4 .1))
-      (apart (f .0) (g .0) (f .2) (g .2) (f .1) (g .1) (f .3) (g .3))
+      apart (f .0) (g .0) (f .2) (g .2) i (f .1) (g .1) (f .3) (g .3) (f .4) (g .4)
 
   pub words-apart : (ws : List Work) → Pairs WordsApart ws → Apart m n ws
   words-apart = pairs-imp WordsApart (λ v w. Disjoint (ownSegments m n v) (ownSegments m n w)) words-disjoint

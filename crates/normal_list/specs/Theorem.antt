@@ -21,11 +21,11 @@ use Rattle.plane_fit.specs.Calls.{badActions}
 use Rattle.call_lists.specs.Lists.{In}
 use Rattle.call_lists.specs.ListLaws.{in-every}
 use Rattle.call_lists.specs.Segments.{Segment, segmentsOf, HasCell}
-use Rattle.call_lists.specs.Calls.{Answer, refusal, cost, Call, answer, judged, hessianTerms, gradientTerms, HasPlace, Tame, Made, works, SameEnd}
-use Rattle.call_lists.specs.Frames.{Frames, framed, idle, hessianCell}
+use Rattle.call_lists.specs.Calls.{refusal, cost, Call, answer, judged, hessianTerms, gradientTerms, HasPlace, Tame, Made, works, SameEnd}
+use Rattle.call_lists.specs.Frames.{Frames, framed}
 use Rattle.call_lists.specs.FrameLaws.{framed-tame, framed-hessian, framed-gradient}
 use Rattle.call_lists.specs.Fold.{cellAfter, after-none}
-use Rattle.call_lists.specs.Chain.{HasChain, has-chain, whole, Folded, folded, settled, any-order}
+use Rattle.call_lists.specs.Chain.{HasChain, has-chain, whole, Folded, folded, hessian-unowned, gradient-unowned, settled, any-order}
 use Rattle.plane_fit.specs.declared.axis.Fit.{Fit}
 use Rattle.plane_fit.specs.declared.axis.Fit.the-variants.{Plane, NoPlane}
 use Rattle.plane_moments.specs.Accumulate.{FramesWork, badLengths, framesRefusal, fitOf, framesOf, costUnder, underFit, called, framesCall, accepted-call}
@@ -135,17 +135,23 @@ module _ (h g : List Float) (es : List (Made Work Got)) (h′ g′ : List Float)
   terms-added : Folded callOf answerOf (length h) (length g) h g es h′ g′
   terms-added = folded callOf answerOf (length h) (length g) h g es h′ g′ refl refl calls
 
-  answered : (e : Made Work Got) → In e es → answerOf (e .got) ≡ pageOf (length h) (length g) (e .work) .answer
-  answered e o = terms-added .answers e o ∙ page-same (length h) (length g) (e .work) .answers
+  at-cell : (ss : List Segment) (i j : ℕ) → i < length g → HasPlace (length g) ss (cellOf (length g) i j) → HasCell i j ss
+  at-cell ss i j l p =
+      let row : p .0 ≡ i = same-row (length g) (p .0) (p .1) i j (p .2) l (sym (p .3)) in
+      let column : p .1 ≡ j = same-column (length g) (p .0) (p .1) i j (p .2) l (sym (p .3)) in
+      rw (row, column) at (p .4)
 
   pub in-the-book : Square h g → InTheBook (length h) (length g) h g es h′ g′
   in-the-book square =
       let m = length h in
       let n = length g in
+      let inside : (i j : ℕ) → i < n → j < n → cellOf n i j < m = λ i j li lj. rw square (cell-fits n i j li lj) in
       record {
-        answers = answered;
-        hessian = λ i j li lj. terms-added .hessian (cellOf n i j) (rw square (cell-fits n i j li lj)) ∙ hessian-pages m n i j li (works es) (getD h (cellOf n i j) nan);
+        answers = λ e o. terms-added .answers e o ∙ page-same m n (e .work) .answers;
+        hessian = λ i j li lj. terms-added .hessian (cellOf n i j) (inside i j li lj) ∙ hessian-pages m n i j li (works es) (getD h (cellOf n i j) nan);
         gradient = λ i l. terms-added .gradient i l ∙ gradient-pages m n i (works es) (getD g i nan);
+        hessian-kept = λ i j li lj out. hessian-unowned callOf answerOf ownSegments tame m n h g es h′ g′ terms-added (cellOf n i j) (inside i j li lj) (λ w o p. out w o (at-cell (ownSegments m n w) i j li p));
+        gradient-kept = gradient-unowned callOf answerOf ownSegments tame m n h g es h′ g′ terms-added;
         hessian-length = terms-added .hessian-length;
         gradient-length = terms-added .gradient-length;
       }
@@ -155,22 +161,11 @@ module _ (h g : List Float) (es : List (Made Work Got)) (h′ g′ : List Float)
       let m = length h in
       let n = length g in
       let s = settled callOf answerOf ownSegments tame m n h g es h′ g′ terms-added apart in
-      let inside : (i j : ℕ) → i < n → j < n → cellOf n i j < m = λ i j li lj. rw square (cell-fits n i j li lj) in
       record {
-        answers = answered;
-        hessian = λ i j li lj w o own. s .hessian (cellOf n i j) (inside i j li lj) w o (i, j, li, refl, own) ∙ page-same m n w .hessian i j li (getD h (cellOf n i j) nan);
+        booked = in-the-book square;
+        hessian = λ i j li lj w o own. s .hessian (cellOf n i j) (rw square (cell-fits n i j li lj)) w o (i, j, li, refl, own) ∙ page-same m n w .hessian i j li (getD h (cellOf n i j) nan);
         gradient = λ i l w o own. s .gradient i l w o own ∙ page-same m n w .gradient i (getD g i nan);
-        hessian-kept = λ i j li lj out. s .hessian-kept (cellOf n i j) (inside i j li lj) (λ w o p. out w o (at-cell (ownSegments m n w) i j li p));
-        gradient-kept = s .gradient-kept;
-        hessian-length = terms-added .hessian-length;
-        gradient-length = terms-added .gradient-length;
       }
-    where
-      at-cell : (ss : List Segment) (i j : ℕ) → i < length g → HasPlace (length g) ss (cellOf (length g) i j) → HasCell i j ss
-      at-cell ss i j l p =
-          let row : p .0 ≡ i = same-row (length g) (p .0) (p .1) i j (p .2) l (sym (p .3)) in
-          let column : p .1 ≡ j = same-column (length g) (p .0) (p .1) i j (p .2) l (sym (p .3)) in
-          rw (row, column) at (p .4)
 
   -- A HESSIAN THAT IS NOT SQUARE in the gradient's length: every call is refused, and both slices stay
   pub not-square : (Square h g → ⊥) → AllRefused h g es h′ g′
@@ -221,7 +216,7 @@ no-plane-page m n (matches w) p = absurd p
 -- so that with rows apart a cell whose owner has no plane keeps its content
 module _ (m n : ℕ) (h g : List Float) (es : List (Made Work Got)) (h′ g′ : List Float) (alone : OwnersAlone m n h g es h′ g′) where
   pub no-plane-costs : (e : Made Work Got) → In e es → WithoutPlane m n (e .work) → answerOf (e .got) ≡ cost zeroF
-  no-plane-costs e o none = alone .answers e o ∙ ap (λ (p : Page). p .answer) (no-plane-page m n (e .work) none)
+  no-plane-costs e o none = alone .booked .answers e o ∙ ap (λ (p : Page). p .answer) (no-plane-page m n (e .work) none)
 
   pub no-plane-hessian : (i j : ℕ) → i < n → j < n → (w : Work) → In w (works es) → OwnsCell m n w i j → WithoutPlane m n w → getD h′ (cellOf n i j) nan ≡ getD h (cellOf n i j) nan
   no-plane-hessian i j li lj w o own none = alone .hessian i j li lj w o own ∙ ap (λ (p : Page). p .hessian i j (getD h (cellOf n i j) nan)) (no-plane-page m n w none)

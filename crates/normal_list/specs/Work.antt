@@ -1,6 +1,5 @@
 -- Both accumulating calls as data: what is handed to a call beside the Hessian and the gradient, and what it hands back. Definitions only.
 use Prim.Native.Nat.{ℕ}
-use mathlib.Core.Path.{_≡_}
 use lib.Ieee.{Float}
 use Rattle.call_lists.specs.Calls.{Answer, Call, Made}
 use Rattle.call_lists.specs.Accumulated.{told}

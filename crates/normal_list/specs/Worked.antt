@@ -1,13 +1,13 @@
 -- A LIST OF FIVE CALLS of both factors, on a Hessian of order 6, to which the theorem applies. Its numbers were worked out on paper. Assumes nothing.
 --
 --     rows 0 1 2 3 4 5
---     past   . .               refused: its second frame would begin at row 5. Its first frame's rows are those of another call
+--     past   . .               refused: its second frame's two rows from row 5 on do not fit. Its first frame's rows are those of another call
 --     seen   1 1               two frames of two columns, which overlap at row 1, and a fixed set
 --              2 2
 --     matched      m m         a match list of two matches, which begins where `seen` ends
 --     flat             f       without plane, where `matched` ends
 --     nowhere                  a frame without a word in the map
-use Prim.Native.Nat.{ℕ, _<_}
+use Prim.Native.Nat.{ℕ}
 use mathlib.Core.Path.{_≡_, refl}
 use mathlib.Core.List.{List, [], _∷_, _++_, map}
 use mathlib.Core.Logic.{inl, inr, ⊎-elim}
@@ -24,7 +24,7 @@ use Rattle.call_lists.specs.Lists.{In, Every}
 use Rattle.call_lists.specs.ListLaws.{every-in}
 use Rattle.call_lists.specs.Segments.{frameSegment}
 use Rattle.call_lists.specs.SegmentLaws.{all-apart}
-use Rattle.call_lists.specs.Calls.{refusal, cost, Made, works}
+use Rattle.call_lists.specs.Calls.{refusal, cost, Made}
 use Rattle.call_lists.specs.Frames.{hessianCell, gradientCell}
 use Rattle.total_order.specs.Three.{before, orderOf}
 use Rattle.decomposition.specs.Axes.{risingOf}
@@ -43,7 +43,7 @@ use Rattle.map_plane.specs.Match.{badPoint, badSigma}
 use Rattle.map_planes.specs.Calls.{badMatches, reasonsAt}
 use Rattle.map_planes.specs.Accumulate.{accumulateRefusal}
 use Rattle.normal_list.specs.Work.{Work, frames, matches, Got, answerOf}
-use Rattle.normal_list.specs.Book.{ownSegments, OwnsRow, OwnsCell, Apart, pageOf}
+use Rattle.normal_list.specs.Book.{ownSegments, OwnsCell, Apart, pageOf}
 use Rattle.normal_list.specs.Demand.{Calls, OwnersAlone}
 use Rattle.normal_list.specs.Theorem.{owners-alone}
 
@@ -248,8 +248,8 @@ module _ (r₁ r₂ r₃ r₄ r₅ : Got) (h g h′ g′ : List Float) (lh : len
   pub worked : Done r₁ r₂ r₃ r₄ r₅ h g h′ g′
   unfolding ownSegments frameSegment framesRefusal badLengths badRecords badCount badTarget finiteAbove badWords badWordAt badWord somewhere someExceeds exceedsAt exceeds lookup wordAt placeOf upto accumulateRefusal badMatches reasonsAt badPoint badSigma allFinite ofBits add mul sub div neg lt le fitOf smallestAxis atLeastOne absolute risingOf orderOf before fitMean weighted total countAt weightedAt recordOf pageOf hessianCell gradientCell framesCost costAt frameCost fixedCost costOf scatterOn weightOf blockEntry vectorEntry pulledEntry normalRow combined shifted listCost listBlock listVector byGroups groupSum groupSize costTerm blockTerm vectorTerm residualAt rowAt
   worked = record {
-    past-refused = settled .answers _ (inl refl);
-    seen-costs = settled .answers _ (inr (inl refl));
+    past-refused = settled .booked .answers _ (inl refl);
+    seen-costs = settled .booked .answers _ (inr (inl refl));
     first-adds = settled .hessian 0 0 (omega arith) (omega arith) seen is-seen (inl ((omega arith, omega arith), (omega arith, omega arith)));
     first-adds-beside = settled .hessian 0 1 (omega arith) (omega arith) seen is-seen (inl ((omega arith, omega arith), (omega arith, omega arith)));
     second-adds-beside = settled .hessian 2 1 (omega arith) (omega arith) seen is-seen (inr (inl ((omega arith, omega arith), (omega arith, omega arith))));
@@ -258,16 +258,16 @@ module _ (r₁ r₂ r₃ r₄ r₅ : Got) (h g h′ g′ : List Float) (lh : len
     first-pulls = settled .gradient 0 (omega arith) seen is-seen (inl (omega arith, omega arith));
     both-pull = settled .gradient 1 (omega arith) seen is-seen (inl (omega arith, omega arith));
     second-pulls = settled .gradient 2 (omega arith) seen is-seen (inr (inl (omega arith, omega arith)));
-    across-frames = settled .hessian-kept 0 2 (omega arith) (omega arith) (every-in _ worksOf across-frames-none);
-    matched-costs = settled .answers _ (inr (inr (inl refl)));
+    across-frames = settled .booked .hessian-kept 0 2 (omega arith) (omega arith) (every-in _ worksOf across-frames-none);
+    matched-costs = settled .booked .answers _ (inr (inr (inl refl)));
     matched-adds = settled .hessian 3 3 (omega arith) (omega arith) matched is-matched (inl ((omega arith, omega arith), (omega arith, omega arith)));
     matched-adds-beside = settled .hessian 4 3 (omega arith) (omega arith) matched is-matched (inl ((omega arith, omega arith), (omega arith, omega arith)));
     matched-adds-last = settled .hessian 4 4 (omega arith) (omega arith) matched is-matched (inl ((omega arith, omega arith), (omega arith, omega arith)));
     matched-pulls = settled .gradient 3 (omega arith) matched is-matched (inl (omega arith, omega arith));
     matched-pulls-last = settled .gradient 4 (omega arith) matched is-matched (inl (omega arith, omega arith));
-    across-calls = settled .hessian-kept 2 3 (omega arith) (omega arith) (every-in _ worksOf across-calls-none);
-    flat-costs = settled .answers _ (inr (inr (inr (inl refl))));
+    across-calls = settled .booked .hessian-kept 2 3 (omega arith) (omega arith) (every-in _ worksOf across-calls-none);
+    flat-costs = settled .booked .answers _ (inr (inr (inr (inl refl))));
     flat-keeps = settled .hessian 5 5 (omega arith) (omega arith) flat is-flat (inl ((omega arith, omega arith), (omega arith, omega arith)));
     flat-keeps-row = settled .gradient 5 (omega arith) flat is-flat (inl (omega arith, omega arith));
-    nowhere-costs = settled .answers _ (inr (inr (inr (inr (inl refl)))));
+    nowhere-costs = settled .booked .answers _ (inr (inr (inr (inr (inl refl)))));
   }

@@ -337,10 +337,6 @@ unique f (fin true (suc m) e) r s p q = p ∙ sym q
 unique f (fin false zero e) r s p q = p ∙ sym q
 unique f (fin false (suc m) e) r s p q = nearest-unique f (fin false (suc m) e) r s p q
 
--- so what meets `IsSquareRoot` is what `sqrtOf` computes
-pub computes : (f : Format) (x r : Float) → T (fits f x) → IsSquareRoot f x r → r ≡ sqrtOf f x
-computes f x r t p = unique f x r (sqrtOf f x) p (sqrtOf-is f x t)
-
 -- and of an x of the format no other value is equally near to its root
 pub untied : (f : Format) (x r y : Float) → T (fits f x) → T (positive x) → IsSquareRoot f x r → T (fits f y) → T (finite y) → (y ≡ r → ⊥) → Tie x r y → ⊥
 unfolding IsSquareRoot

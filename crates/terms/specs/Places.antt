@@ -1,7 +1,7 @@
 -- The place of cell (i, j) of a matrix of n rows that is stored by columns: its row, its column, and that it is inside. Assumes nothing.
-use Prim.Native.Nat.{ℕ, _+_, _*_, _<_, _%_, _/_}
+use Prim.Native.Nat.{ℕ, _*_, _<_, _%_, _/_}
 use mathlib.Core.Path.{_≡_, sym, ap, _∙_}
-use native.Mathlib.Nat.{mul-add-mod-self-right, mul-add-div-right, mod-eq-of-lt, div-eq-of-lt, add-zero, mod-lt, div-add-mod', div-lt-iff-lt-mul}
+use native.Mathlib.Nat.{mul-add-mod-self-right, mul-add-div-right, mod-eq-of-lt, div-eq-of-lt, add-zero}
 use native.Mathlib.Omega.{arith}
 use Rattle.terms.specs.Terms.{cellOf}
 use Rattle.terms.specs.Laws.{column-before}

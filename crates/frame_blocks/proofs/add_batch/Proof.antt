@@ -4,13 +4,14 @@ use mathlib.Core.Path.{_≡_, refl, _∙_}
 use native.Mathlib.Omega.{arith}
 use borrow.Author.Needs.{needs}
 use lib.ListN.{length}
-use Rattle.frame_blocks.specs.Frames.{BatchAdded, first-none, batch-more, ready-fits, ready-square, ready-held}
+use Rattle.frame_blocks.specs.Pulls.{pullIn}
+use Rattle.frame_blocks.specs.Frames.{framesIn, FirstAdded, first-none, batch-more, ready-fits, ready-square, ready-held}
 use Rattle.frame_blocks.proofs.add_batch.Statement.{statement}
 use Rattle.frame_blocks.proofs.add_batch.Tie as tie
 
 abbrev Inv-loop : tie.InvT-loop
 Inv-loop h₀ g₀ dof frames actions map from size normal weight pulls sum s₀ k₀ h g s k =
-    (k ≤ size) × (length h ≡ length h₀) × (length g ≡ length g₀) × BatchAdded (length g₀) dof frames actions map normal weight pulls from k sum s h₀ h g₀ g
+    (k ≤ size) × (length h ≡ length h₀) × (length g ≡ length g₀) × FirstAdded (length g₀) (framesIn dof frames actions map normal weight pulls from size) (λ k. pullIn pulls k .cost) k sum s h₀ h g₀ g
 
 abbrev μ-loop : tie.MeasureT-loop
 μ-loop h₀ g₀ dof frames actions map from size normal weight pulls sum s₀ k₀ h g s k = size - k
@@ -41,7 +42,7 @@ loop-again c =
       search needs,
       added .add-frame .kept .0 ∙ l .inv .1,
       added .add-frame .kept .1 .0 ∙ l .inv .2,
-      batch-more _ _ _ _ _ _ _ cells _ (l .k) _ _ _ _ (l .s) _ (l .h) _ _ (l .g) _ (l .inv .2) (looked .lookup .ensures) (pulled .pull-at .ensures) (added .add-frame .ensures) (l .inv .3),
+      batch-more _ _ _ _ _ _ _ cells _ _ (l .k) _ _ _ _ (l .s) _ (l .h) _ _ (l .g) _ (l .inv .2) (looked .lookup .ensures) (pulled .pull-at .ensures) (added .add-frame .ensures) (l .inv .3),
     )
 
 returns : tie.Need-returns Inv-loop μ-loop

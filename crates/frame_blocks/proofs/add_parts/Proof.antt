@@ -8,13 +8,14 @@ use lib.ListN.{length}
 use Rattle.terms.specs.Laws.{length-addAll}
 use Rattle.normal_blocks.specs.Map.{lookup}
 use Rattle.normal_blocks.specs.Laws.{fits, fits-at}
-use Rattle.frame_blocks.specs.Frames.{PartAdded, PartsAdded, part-mapped, part-unmapped, first-none, parts-more}
+use Rattle.frame_parts.specs.Parts.{costIn}
+use Rattle.frame_blocks.specs.Frames.{PartAdded, partsIn, FirstAdded, part-mapped, part-unmapped, first-none, parts-more}
 use Rattle.frame_blocks.proofs.add_parts.Statement.{statement}
 use Rattle.frame_blocks.proofs.add_parts.Tie as tie
 
 abbrev Inv-loop : tie.InvT-loop
 Inv-loop h₀ g₀ map from size cells sum n s₀ k₀ h g s k =
-    (k ≤ size) × (length h ≡ length h₀) × (length g ≡ length g₀) × PartsAdded (length g₀) map cells from k sum s h₀ h g₀ g
+    (k ≤ size) × (length h ≡ length h₀) × (length g ≡ length g₀) × FirstAdded (length g₀) (partsIn map cells from size) (costIn cells) k sum s h₀ h g₀ g
 
 abbrev μ-loop : tie.MeasureT-loop
 μ-loop h₀ g₀ map from size cells sum n s₀ k₀ h g s k = size - k
@@ -47,7 +48,7 @@ loop-again c =
       search needs,
       ap length (a .hessian) ∙ length-addAll _ _ ∙ l .inv .1,
       ap length (a .gradient) ∙ length-addAll _ _ ∙ l .inv .2,
-      parts-more _ _ _ _ (l .k) _ _ (l .s) _ _ (l .h) _ _ (l .g) _ (looked .lookup .ensures) (c .cost-at .ensures) a (l .inv .3),
+      parts-more _ _ _ _ _ (l .k) _ _ (l .s) _ _ (l .h) _ _ (l .g) _ (looked .lookup .ensures) (c .cost-at .ensures) a (l .inv .3),
     )
 
 returns : tie.Need-returns Inv-loop μ-loop
