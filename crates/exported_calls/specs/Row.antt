@@ -6,7 +6,7 @@ use Rattle.call_lists.specs.Calls.{Made}
 use Rattle.normal_list.specs.Work.{Work, Got}
 use Rattle.normal_list.specs.Demand.{Calls, Demand3}
 
--- a refused call leaves the cost behind its pointer as it was: the calls, and the costs before them
+-- each call with the cost that stood behind its pointer before: a refused call leaves it as it was
 abbrev pub CostsKept : List (Made Work Got) → List Float → Type 0
 CostsKept [] xs = Unit
 CostsKept (e ∷ es) [] = ⊥

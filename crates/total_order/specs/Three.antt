@@ -40,7 +40,7 @@ orderBy p =
     let i = least p (least p 0 1) 2 in
     record { first = i; second = least p (oneOther i) (nextOther i); third = greatest p (oneOther i) (nextOther i) }
 
--- of three patterns (what it opens lets the order of given ones be computed)
+-- of three patterns; with the definitions that are opened here the order of given patterns computes
 unfoldable pub orderOf : ℕ → ℕ → ℕ → Order
 unfolding totalOrder nanBits ofBits lt
 orderOf a b c = orderBy (patternAt a b c)
