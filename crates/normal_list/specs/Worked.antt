@@ -7,7 +7,7 @@
 --     matched      m m         a match list of two matches, which begins where `seen` ends
 --     flat             f       without plane, where `matched` ends
 --     nowhere                  a frame without a word in the map
-use Prim.Native.Nat.{ℕ}
+use Prim.Native.Nat.{ℕ, zero, suc, _≤_}
 use mathlib.Core.Path.{_≡_, refl}
 use mathlib.Core.List.{List, [], _∷_, _++_, map}
 use mathlib.Core.Logic.{inl, inr, ⊎-elim}
@@ -17,6 +17,7 @@ use lib.Ieee.{Float, nan, binary64, ofBits, add, mul, sub, div, neg, lt, le}
 use Rattle.sums.specs.Sum.{_⊕_, zeroF}
 use Rattle.terms.specs.Terms.{cellOf, upto}
 use Rattle.validate.specs.Finite.{allFinite, finiteAbove}
+use Rattle.normal_blocks.specs.declared.Place.the-variants.{At}
 use Rattle.normal_blocks.specs.Somewhere.{somewhere}
 use Rattle.normal_blocks.specs.Map.{placeOf, wordAt, lookup, badWord, badWordAt, badWords, exceeds, exceedsAt, someExceeds}
 use Rattle.normal_blocks.specs.Calls.{badTarget}
@@ -44,7 +45,7 @@ use Rattle.map_planes.specs.Calls.{badMatches, reasonsAt}
 use Rattle.map_planes.specs.Accumulate.{accumulateRefusal}
 use Rattle.normal_list.specs.Work.{Work, frames, matches, Got, answerOf}
 use Rattle.normal_list.specs.Book.{ownSegments, OwnsCell, Apart, pageOf}
-use Rattle.normal_list.specs.Demand.{Calls, OwnersAlone}
+use Rattle.normal_list.specs.Demand.{Among, WordsApart, Calls, OwnersAlone}
 use Rattle.normal_list.specs.Theorem.{owners-alone}
 
 -- whole numbers by their bit patterns
@@ -222,6 +223,20 @@ worksOf = past ∷ seen ∷ matched ∷ flat ∷ nowhere ∷ []
 pub apart : Apart 36 6 worksOf
 unfolding ownSegments frameSegment framesRefusal badLengths badRecords badCount badTarget finiteAbove badWords badWordAt badWord somewhere someExceeds exceedsAt exceeds lookup wordAt placeOf upto accumulateRefusal badMatches reasonsAt badPoint badSigma allFinite ofBits add mul sub div neg lt le
 apart = all-apart (ownSegments 36 6) worksOf refl
+
+-- and by their words alone, two of them: the frames of `seen` have rows 0 and 1, and 1 and 2, the match list rows 3 and 4
+apart-at : (q o p i : ℕ) → At q ≡ At o → At 3 ≡ At p → Among o 2 i → Among p 2 i → q ≤ 1 → ⊥
+apart-at q o p i at at′ a b h =
+    let e : q ≡ o = cc in
+    let f : 3 ≡ p = cc in
+    omega (arith, a .0, a .1, b .0, b .1)
+
+pub words : WordsApart seen matched
+unfolding lookup wordAt placeOf
+words zero zero o p i h k at at′ a b = apart-at 0 o p i at at′ a b (omega arith)
+words (suc zero) zero o p i h k at at′ a b = apart-at 1 o p i at at′ a b (omega arith)
+words (suc (suc x)) zero o p i h k at at′ a b = absurd (omega arith)
+words x (suc l) o p i h k at at′ a b = absurd (omega arith)
 
 -- no call has rows 0 and 2 in one segment, nor rows 2 and 3
 across-frames-none : Every (λ w. OwnsCell 36 6 w 0 2 → ⊥) worksOf
