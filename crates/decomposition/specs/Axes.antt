@@ -12,10 +12,6 @@ use Rattle.decomposition.specs.declared.Axes.{Axes}
 abbrev pub DECOMPOSITION : ℕ
 DECOMPOSITION = 12
 
--- 1e-14, by its bits
-abbrev pub MIN_EIGEN_GAP : Float
-MIN_EIGEN_GAP = ofBits binary64 0x3d06_849b_86a1_2b9b
-
 -- the number at a place
 abbrev pub numberAt : List ℕ → ℕ → Float
 numberAt d k = ofBits binary64 (getD d k 0)

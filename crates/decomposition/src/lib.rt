@@ -9,8 +9,11 @@ ghost use Rattle.decomposition.specs.Axes.{DECOMPOSITION, numberAt, vect
 // How many patterns a decomposition is.
 pub const DECOMPOSITION: usize = 12;
 
-// The smallest gap between the two smallest eigenvalues for a defined normal. The fit and the plane of moments each have their own rule with it.
+// The smallest gap between the two smallest eigenvalues for a defined normal, of moments and of frames, each by its own rule.
 pub const MIN_EIGEN_GAP: f64 = 1e-14;
+
+// The same of raw points, whose scatter is divided by their number.
+pub const MIN_POINTS_GAP: f64 = 1e-12;
 
 // The eigenvalues in rising order, and the vector of the first.
 pub struct Axes {

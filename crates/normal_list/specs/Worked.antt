@@ -29,7 +29,8 @@ use Rattle.call_lists.specs.Calls.{refusal, cost, Made}
 use Rattle.call_lists.specs.Frames.{hessianCell, gradientCell}
 use Rattle.total_order.specs.Three.{before, orderOf}
 use Rattle.decomposition.specs.Axes.{risingOf}
-use Rattle.plane_fit.specs.Axis.{smallestAxis, atLeastOne, absolute}
+use Rattle.decomposition.specs.Gaps.{absolute, atLeastOne, framesPlane}
+use Rattle.plane_fit.specs.Axis.{smallestAxis}
 use Rattle.plane_fit.specs.Calls.{badRecords, badCount}
 use Rattle.plane_fit.specs.Records.{recordOf}
 use Rattle.plane_fit.specs.Fit.{fitMean, weighted, total, countAt, weightedAt}
@@ -261,7 +262,7 @@ module _ (r₁ r₂ r₃ r₄ r₅ : Got) (h g h′ g′ : List Float) (lh : len
   settled = rw (lh, lg) at (owners-alone h g (list r₁ r₂ r₃ r₄ r₅) h′ g′ calls (rw (lh, lg)) (rw (lh, lg) apart))
 
   pub worked : Done r₁ r₂ r₃ r₄ r₅ h g h′ g′
-  unfolding ownSegments frameSegment framesRefusal badLengths badRecords badCount badTarget finiteAbove badWords badWordAt badWord somewhere someExceeds exceedsAt exceeds lookup wordAt placeOf upto accumulateRefusal badMatches reasonsAt badPoint badSigma allFinite ofBits add mul sub div neg lt le fitOf smallestAxis atLeastOne absolute risingOf orderOf before fitMean weighted total countAt weightedAt recordOf pageOf hessianCell gradientCell framesCost costAt frameCost fixedCost costOf scatterOn weightOf blockEntry vectorEntry pulledEntry normalRow combined shifted listCost listBlock listVector byGroups groupSum groupSize costTerm blockTerm vectorTerm residualAt rowAt
+  unfolding ownSegments frameSegment framesRefusal badLengths badRecords badCount badTarget finiteAbove badWords badWordAt badWord somewhere someExceeds exceedsAt exceeds lookup wordAt placeOf upto accumulateRefusal badMatches reasonsAt badPoint badSigma allFinite ofBits add mul sub div neg lt le fitOf smallestAxis framesPlane atLeastOne absolute risingOf orderOf before fitMean weighted total countAt weightedAt recordOf pageOf hessianCell gradientCell framesCost costAt frameCost fixedCost costOf scatterOn weightOf blockEntry vectorEntry pulledEntry normalRow combined shifted listCost listBlock listVector byGroups groupSum groupSize costTerm blockTerm vectorTerm residualAt rowAt
   worked = record {
     past-refused = settled .booked .answers _ (inl refl);
     seen-costs = settled .booked .answers _ (inr (inl refl));

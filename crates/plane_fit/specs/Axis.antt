@@ -1,43 +1,29 @@
--- The fit's answer: the axis of least scatter with its offset, or no plane. Definitions and the law of their maximum; assumes nothing.
-use mathlib.Core.Path.{_≡_, refl, sym, _∙_}
-use mathlib.Core.Bool.{Bool, true, false, cond}
+-- The fit's answer: the axis of least scatter with its offset, or no plane. Its definition, and the law of the maximum in its rule; assumes nothing.
+use mathlib.Core.Path.{_≡_, refl}
+use mathlib.Core.Bool.{true, false, cond}
 use mathlib.Core.List.{List}
 use Prim.Native.Nat.{ℕ}
 use lib.Ieee.{Float, nan, inf, fin, binary64, ofBits, sub, neg, lt}
 use Rattle.sums.specs.Sum.{_⊗_, dot}
 use Rattle.lists.specs.Part.{_!_}
-use Rattle.decomposition.specs.Axes.{MIN_EIGEN_GAP, risingOf}
+use Rattle.decomposition.specs.Axes.{risingOf}
+use Rattle.decomposition.specs.Gaps.{MIN_EIGEN_GAP, one, absolute, atLeastOne, framesPlane}
 use Rattle.decomposition.specs.declared.Axes.{Axes}
 use Rattle.plane_fit.specs.declared.axis.Fit.{Fit}
 use Rattle.plane_fit.specs.declared.axis.Fit.the-variants.{Plane, NoPlane}
-
--- 1 and -1
-abbrev pub one : Float
-one = ofBits binary64 0x3ff0_0000_0000_0000
-
-abbrev pub minusOne : Float
-minusOne = neg one
-
--- |x|
-unfoldable pub absolute : Float → Float
-absolute nan = nan
-absolute (inf s) = inf false
-absolute (fin s m e) = fin false m e
-
--- max(|x|, 1), "where a NaN counts as 1 in the maximum"
-unfoldable pub atLeastOne : Float → Float
-atLeastOne x = cond (lt one (absolute x)) (absolute x) one
 
 -- "With gap = second - first, it gives a plane exactly if gap > 1e-14 × max(|third|, 1)": the vector of the first eigenvalue, and -(Σ n_r·mean_r)
 unfoldable pub smallestAxis : List ℕ → List Float → Fit
 smallestAxis d mean =
     let a = risingOf d in
     let n = a .normal in
-    cond (lt (MIN_EIGEN_GAP ⊗ atLeastOne (a .third)) (sub binary64 (a .second) (a .first)))
+    cond (framesPlane a)
     (Plane (n ! 0) (n ! 1) (n ! 2) (neg (dot 3 n mean)))
     NoPlane
 
 -- ---- the maximum by comparisons
+abbrev minusOne : Float
+minusOne = neg one
 
 pub above : (x : Float) → lt one x ≡ true → x ≡ atLeastOne x
 unfolding atLeastOne absolute lt ofBits
@@ -67,9 +53,9 @@ between (fin true m e) h k = rw k
 module _ (d : List ℕ) (mean : List Float) (a : Axes) (b : Float) (sorted : a ≡ risingOf d) (bound : b ≡ atLeastOne (a .third)) where
   pub found : (along : Float) → along ≡ dot 3 (a .normal) mean → lt (MIN_EIGEN_GAP ⊗ b) (sub binary64 (a .second) (a .first)) ≡ true
       → Plane (a .normal ! 0) (a .normal ! 1) (a .normal ! 2) (neg along) ≡ smallestAxis d mean
-  unfolding smallestAxis
+  unfolding smallestAxis framesPlane
   found along e h = let g = rw bound at h in rw (← sorted, e, g)
 
   pub none : lt (MIN_EIGEN_GAP ⊗ b) (sub binary64 (a .second) (a .first)) ≡ false → NoPlane ≡ smallestAxis d mean
-  unfolding smallestAxis
+  unfolding smallestAxis framesPlane
   none h = let g = rw bound at h in rw (← sorted, g)

@@ -2,7 +2,8 @@
 ghost use mathlib.Core.Path.{_≡_};
 ghost use lib.ListN.{length};
 ghost use Rattle.decomposition.specs.Axes.{DECOMPOSITION};
-ghost use Rattle.plane_fit.specs.Axis.{atLeastOne, smallestAxis};
+ghost use Rattle.decomposition.specs.Gaps.{atLeastOne};
+ghost use Rattle.plane_fit.specs.Axis.{smallestAxis};
 use decomposition::MIN_EIGEN_GAP;
 
 // A normal with its offset, or no plane.

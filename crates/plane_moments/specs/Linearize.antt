@@ -15,7 +15,8 @@ use Rattle.refusals.specs.Refusal.{_when_, firstOf, Answered, accepted, none, e
 use Rattle.sums.specs.Sum.{zeroF}
 use Rattle.validate.specs.Finite.{finitePositive}
 use Rattle.decomposition.specs.Axes.{DECOMPOSITION}
-use Rattle.plane_fit.specs.Axis.{one, smallestAxis}
+use Rattle.decomposition.specs.Gaps.{one}
+use Rattle.plane_fit.specs.Axis.{smallestAxis}
 use Rattle.plane_fit.specs.Fit.{Shaped, frameCount, fitMean}
 use Rattle.plane_fit.specs.Calls.{badFrames, badFixed, badActions, whole-fixed, one-each, shaped}
 use Rattle.plane_fit.specs.declared.axis.Fit.{Fit}

@@ -2,10 +2,11 @@
 use Prim.Native.Nat.{ℕ}
 use mathlib.Core.Bool.{cond}
 use mathlib.Core.List.{List}
-use lib.Ieee.{Float, binary64, ofBits, sub, neg, lt}
+use lib.Ieee.{Float, binary64, ofBits, neg, lt}
 use Rattle.sums.specs.Sum.{dot}
 use Rattle.lists.specs.Part.{_!_}
-use Rattle.decomposition.specs.Axes.{MIN_EIGEN_GAP, risingOf}
+use Rattle.decomposition.specs.Axes.{risingOf}
+use Rattle.decomposition.specs.Gaps.{momentsPlane}
 use Rattle.decomposition.specs.declared.Axes.{Axes}
 use Rattle.point_moments.specs.Scatter.{mean}
 use Rattle.point_moments.specs.declared.PointMoments.{PointMoments}
@@ -26,4 +27,4 @@ planeBy d mean =
 unfoldable pub planeOf : PointMoments → List ℕ → MomentsPlane
 planeOf m d =
     cond (lt (m .count) three) NoPlane
-    (cond (lt (sub binary64 (risingOf d .second) (risingOf d .first)) MIN_EIGEN_GAP) NoPlane (planeBy (risingOf d) (mean m)))
+    (cond (momentsPlane (risingOf d)) (planeBy (risingOf d) (mean m)) NoPlane)

@@ -8,7 +8,8 @@ use Rattle.moment_matrices.specs.Matrices.{movedOuter, scatterOf}
 use Rattle.point_moments.specs.Moments.{withPoint, transformed, ofPoints}
 use Rattle.point_moments.specs.Scatter.{meanAndScatter}
 use Rattle.point_moments.specs.Plane.{planeOf}
-use Rattle.plane_fit.specs.Axis.{smallestAxis, atLeastOne, absolute}
+use Rattle.decomposition.specs.Gaps.{absolute, atLeastOne, momentsPlane, framesPlane}
+use Rattle.plane_fit.specs.Axis.{smallestAxis}
 use Rattle.plane_fit.specs.Records.{recordOf}
 use Rattle.plane_fit.specs.Calls.{badRecords, badCount}
 use Rattle.normal_blocks.specs.Somewhere.{somewhere}
@@ -18,5 +19,5 @@ use Rattle.plane_moments.specs.Build.{badShapes, buildRefusal}
 use Rattle.worked_cases.specs.Table.{every, table, caseA, caseB, caseC, caseD, caseE, caseF, caseG, caseH, caseI, caseJ, caseK}
 
 pub worked : T (every table)
-unfolding table caseA caseB caseC caseD caseE caseF caseG caseH caseI caseJ caseK orderOf before squareRoot sqrtOf toBits ofBits add mul sub div neg lt le risingOf movedOuter scatterOf withPoint transformed ofPoints meanAndScatter planeOf smallestAxis atLeastOne absolute somewhere allFinite finiteAbove recordOf badRecords badCount fixedCount countAt countSum dropped emptyAt someEmpty tooFew notFinite points badShapes buildRefusal
+unfolding table caseA caseB caseC caseD caseE caseF caseG caseH caseI caseJ caseK orderOf before squareRoot sqrtOf toBits ofBits add mul sub div neg lt le risingOf movedOuter scatterOf withPoint transformed ofPoints meanAndScatter planeOf smallestAxis momentsPlane framesPlane atLeastOne absolute somewhere allFinite finiteAbove recordOf badRecords badCount fixedCount countAt countSum dropped emptyAt someEmpty tooFew notFinite points badShapes buildRefusal
 worked = tt

@@ -3,7 +3,7 @@ use mathlib.Core.Path.{_≡_}
 use mathlib.Core.Bool.{true}
 use lib.Ieee.{binary64, sub, lt}
 use borrow.Author.Needs.{needs}
-use Rattle.decomposition.specs.Axes.{MIN_EIGEN_GAP}
+use Rattle.decomposition.specs.Gaps.{MIN_EIGEN_GAP, momentsPlane}
 use Rattle.point_moments.specs.Plane.{planeOf}
 use Rattle.point_moments.proofs.PointMoments.plane.Statement.{statement}
 use Rattle.point_moments.proofs.PointMoments.plane.Tie as tie
@@ -13,14 +13,14 @@ unfolding planeOf
 returns c = rw (c .if1 .taken)
 
 returns-2 : tie.Need-returns-2
-unfolding planeOf
+unfolding planeOf momentsPlane
 returns-2 c =
     let axes = c .before .before .rising .result in
     let narrow : lt (sub binary64 (axes .second) (axes .first)) MIN_EIGEN_GAP ≡ true = c .if2 .taken in
     rw (c .before .before .before .if1 .left, ← c .before .before .rising .ensures, narrow)
 
 returns-3 : tie.Need-returns-3
-unfolding planeOf
+unfolding planeOf momentsPlane
 returns-3 c =
     let tested = c .before .before .before .before in
     let made = tested .before .before in
