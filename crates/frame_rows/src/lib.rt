@@ -1,7 +1,7 @@
 // A frame factor linearized at a plane: the residuals, and the Jacobian's blocks.
 ghost use mathlib.Core.Path.{_≡_};
 ghost use Prim.Native.Nat.{ℕ, _+_, _*_, _≤_, _<_};
-ghost use lib.ListN.{length, replicate};
+ghost use lib.ListN.{length};
 ghost use Rattle.sums.specs.Sum.{zeroF};
 ghost use Rattle.sums.specs.Fill.{written};
 ghost use Rattle.lists.specs.Part.{_!_};
@@ -48,17 +48,6 @@ fn clear_part(out: &mut [f64], at: usize, many: usize)
 {
     for k in 0..many {
         out[at + k] = 0.0;
-    }
-}
-
-// +0 everywhere.
-pub fn clear(out: &mut [f64])
-    ensures { λ _. ⌜ now (out .exit) ≡ replicate (length (now (out .entry))) zeroF ⌝ }
-{
-    let mut k = 0;
-    while k < out.len() {
-        out[k] = 0.0;
-        k += 1;
     }
 }
 

@@ -1,8 +1,9 @@
-// Numbers between lent lists and arrays by value, and how a list is taken in batches.
+// Numbers between lent lists and arrays by value, a list cleared, and how a list is taken in batches.
 ghost use mathlib.Core.Path.{_≡_};
 ghost use Prim.Native.Nat.{_+_, _-_, _≤_, min};
 ghost use mathlib.Core.List.{_∷_, _++_};
-ghost use lib.ListN.{length};
+ghost use lib.ListN.{length, replicate};
+ghost use Rattle.sums.specs.Sum.{zeroF};
 ghost use Rattle.lists.specs.Part.{part};
 
 pub fn three(l: &[f64], at: usize) -> [f64; 3]
@@ -76,6 +77,17 @@ pub fn store(to: &mut [f64], from: &[f64])
     let mut k = 0;
     while k < from.len() {
         to[k] = from[k];
+        k += 1;
+    }
+}
+
+// +0 everywhere.
+pub fn clear(out: &mut [f64])
+    ensures { λ _. ⌜ now (out .exit) ≡ replicate (length (now (out .entry))) zeroF ⌝ }
+{
+    let mut k = 0;
+    while k < out.len() {
+        out[k] = 0.0;
         k += 1;
     }
 }

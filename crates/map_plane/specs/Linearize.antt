@@ -31,15 +31,15 @@ unfoldable pub projected : List Float → List Float → ℕ → Float
 projected n columns c = sumTo 3 (λ r. n ! r ⊗ at 3 columns r c)
 
 -- a state column is information times the whole projection
-abbrev pub stateColumn : List Float → List Float → ℕ → Float
-stateColumn m state c = information m ⊗ projected (normal m) state c
+abbrev pub stateColumn : Float → List Float → List Float → ℕ → Float
+stateColumn info n state c = info ⊗ projected n state c
 
 -- an extrinsic column uses information·normalᵀ first
 abbrev pub extrinsicColumn : List Float → List Float → ℕ → Float
 extrinsicColumn m extrinsic c = projected (tab 3 (λ r. information m ⊗ normal m ! r)) extrinsic c
 
 abbrev pub wholeRow : ℕ → List Float → List Float → List Float → List Float
-wholeRow dof m state extrinsic = tab dof (stateColumn m state) ++ tab EXTRINSIC (extrinsicColumn m extrinsic)
+wholeRow dof m state extrinsic = tab dof (stateColumn (information m) (normal m) state) ++ tab EXTRINSIC (extrinsicColumn m extrinsic)
 
 -- what the call is handed
 pub record Inputs : Type 0 where

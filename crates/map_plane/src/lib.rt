@@ -3,11 +3,10 @@ ghost use mathlib.Core.Path.{_≡_};
 ghost use Prim.Native.Nat.{_+_, _*_, _≤_};
 ghost use lib.ListN.{length};
 ghost use Rattle.refusals.specs.Refusal.{firstOf};
-ghost use Rattle.sums.specs.Sum.{_⊗_};
 ghost use Rattle.sums.specs.Fill.{First, written};
 ghost use Rattle.lists.specs.Part.{part};
-ghost use Rattle.map_plane.specs.Match.{MATCH, matchReasons, normal, information};
-ghost use Rattle.map_plane.specs.Linearize.{EXTRINSIC, residual, projected, wholeRow, badLengths, badRow, Linearized};
+ghost use Rattle.map_plane.specs.Match.{MATCH, matchReasons};
+ghost use Rattle.map_plane.specs.Linearize.{EXTRINSIC, residual, projected, stateColumn, wholeRow, badLengths, badRow, Linearized};
 use derivative::MOST_DOF;
 
 // How many numbers a match is: the point, the plane's normal and offset, sigma.
@@ -45,14 +44,22 @@ fn project(n: [f64; 3], columns: &[f64], c: usize) -> f64
     n[0] * columns[i] + n[1] * columns[i + 1] + n[2] * columns[i + 2]
 }
 
-// The state's columns: information scales the whole projection.
+// A state's column: information scales the whole projection.
+pub fn state_column(info: f64, n: [f64; 3], columns: &[f64], c: usize) -> f64
+    requires { ⌜ c * 3 + 3 ≤ length (now columns) ⌝ }
+    ensures { λ r. ⌜ r ≡ stateColumn info n (now (columns .entry)) c ⌝ }
+{
+    info * project(n, columns, c)
+}
+
+// The state's columns.
 fn write_state(info: f64, n: [f64; 3], columns: &[f64], width: usize, row: &mut [f64])
     requires { ⌜ (width * 3 ≤ length (now columns)) × (width ≤ length (now row)) ⌝ }
-    ensures { λ _. ⌜ First width (now (row .exit)) (λ c. info ⊗ projected n (now (columns .entry)) c) × (length (now (row .exit)) ≡ length (now (row .entry))) ⌝ }
+    ensures { λ _. ⌜ First width (now (row .exit)) (stateColumn info n (now (columns .entry))) × (length (now (row .exit)) ≡ length (now (row .entry))) ⌝ }
 {
     let mut c = 0;
     while c < width {
-        row[c] = info * project(n, columns, c);
+        row[c] = state_column(info, n, columns, c);
         c += 1;
     }
 }

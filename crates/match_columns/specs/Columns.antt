@@ -1,20 +1,20 @@
 -- How a matrix that is stored by columns is filled, some columns at a time and row after row: definitions, then their laws. Assumes nothing.
-use Prim.Native.Nat.{ℕ, zero, suc, _+_, _-_, _*_, _%_, _/_, _<_, _≤_}
-use mathlib.Core.Path.{_≡_, refl, sym, ap, _∙_}
+use Prim.Native.Nat.{ℕ, _+_, _-_, _*_, _<_, _≤_}
+use mathlib.Core.Path.{_≡_, refl, _∙_}
 use mathlib.Core.Bool.{Bool, true, false}
 use mathlib.Core.List.{List}
-use native.Mathlib.Nat.{not-suc-le-zero, mul-zero, mod-lt, div-lt-iff-lt-mul, div-add-mod'}
+use native.Mathlib.Nat.{not-suc-le-zero}
 use native.Mathlib.Omega.{arith}
 use lib.Dec.{ltb}
 use lib.ListN.{length, set, length-set}
-use lib.Seq.{ext-getD, getD-set-same, getD-set-other}
+use lib.Seq.{getD-set-same, getD-set-other}
 use lib.Ieee.{Float, nan}
 use borrow.Author.Tests.{ltb-true, ltb-false}
 use Rattle.sums.specs.Sum.{grid}
-use Rattle.sums.specs.Laws.{length-grid, at-grid, off-add, up-to}
+use Rattle.sums.specs.Laws.{up-to}
 use Rattle.lists.specs.Part.{_!_}
 use Rattle.terms.specs.Terms.{cellOf}
-use Rattle.terms.specs.Places.{same-row, same-column}
+use Rattle.terms.specs.Places.{same-row, same-column, grid-of-cells}
 
 -- a matrix of n rows whose first c columns are f's
 pub record Done (n c : ℕ) (f : ℕ → ℕ → Float) (j : List Float) : Type 0 where
@@ -107,18 +107,5 @@ done-more n c c′ f j j′ g done = record { cells = λ i d il dl. go i d il dl
     go i d il dl true q = let l : d < c = ltb-true d c q in g .kept i d il (λ a b. omega arith) ∙ done .cells i d il l
     go i d il dl false q = g .cells i d il (ltb-false d c q) dl
 
-some-rows : (dof n p : ℕ) → p < dof * n → 0 < n
-some-rows dof zero p h = absurd (not-suc-le-zero (rw mul-zero at h))
-some-rows dof (suc n) p h = omega arith
-
 pub done-all : (n dof : ℕ) (f : ℕ → ℕ → Float) (j : List Float) → length j ≡ dof * n → Done n dof f j → j ≡ grid n dof f
-done-all n dof f j size r = ext-getD nan j (grid n dof f) (size ∙ sym (length-grid n dof f)) (λ p h. cell-is p (rw size at h))
-  where
-    cell-is : (p : ℕ) → p < dof * n → j ! p ≡ grid n dof f ! p
-    cell-is p h =
-        let pos : 0 < n = some-rows dof n p h in
-        let row : p % n < n = mod-lt p pos in
-        let column : p / n < dof = div-lt-iff-lt-mul pos .1 h in
-        let split : p / n * n + p % n ≡ p = div-add-mod' p n in
-        ap (λ (q : ℕ). j ! q) (sym split) ∙ r .cells (p % n) (p / n) row column
-        ∙ sym (at-grid n dof f (p % n) (p / n) row column) ∙ ap (λ (q : ℕ). grid n dof f ! q) (off-add (p / n * n) (p % n) ∙ split)
+done-all n dof f j size r = grid-of-cells n dof f j size (r .cells)

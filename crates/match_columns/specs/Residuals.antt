@@ -1,15 +1,13 @@
 -- The residuals of a match list, the numbers of its rows as the code works them out, and how far a pass over the matches has come that writes
 -- residuals and first columns. Assumes nothing.
 use Prim.Native.Nat.{ℕ, _+_, _*_, _/_, _<_, _≤_}
-use mathlib.Core.Path.{_≡_, refl, sym, _∙_}
+use mathlib.Core.Path.{_≡_, refl, _∙_}
 use mathlib.Core.List.{List}
 use native.Mathlib.Omega.{arith}
 use lib.ListN.{length, set, length-set}
-use lib.Seq.{ext-getD}
-use lib.Ieee.{Float, nan}
+use lib.Ieee.{Float}
 use Rattle.sums.specs.Sum.{_⊕_, _⊗_, tab, grid, dot, plus, product}
-use Rattle.sums.specs.Laws.{length-tab, getD-tab}
-use Rattle.sums.specs.Fill.{First, first-none, first-more}
+use Rattle.sums.specs.Fill.{First, first-none, first-more, first-all}
 use Rattle.derivative.specs.Action.{actionMatrix, actionShift}
 use Rattle.map_plane.specs.Match.{MATCH, matchAt, point, normal, offset, information}
 use Rattle.match_rows.specs.Row.{residualAt, informationAt, rowAt}
@@ -30,10 +28,6 @@ Begun x t ms n w k r j j′ =
     (k ≤ n) × (length r ≡ n) × (length j′ ≡ length j) × First k r (residualAt x ms) × Filled n 0 w k 0 (rowsBy t ms) j j′
 
 -- ---- laws
--- a list of n numbers that is filled from the front
-pub first-all : (n : ℕ) (l : List Float) (f : ℕ → Float) → length l ≡ n → First n l f → l ≡ tab n f
-first-all n l f e h = ext-getD nan l (tab n f) (e ∙ sym (length-tab n f)) (λ k m. let w : k < n = omega arith in h k w ∙ sym (getD-tab n f k w))
-
 -- the residual from the action's matrix and shift as they were read
 pub residual-is : (x ms m q turned carried : List Float) (k : ℕ) (d : Float) → m ≡ grid 3 3 (actionMatrix x) → q ≡ tab 3 (actionShift x)
     → turned ≡ product 3 3 1 m (point (matchAt ms k)) → carried ≡ plus 3 turned q → d ≡ dot 3 (normal (matchAt ms k)) carried

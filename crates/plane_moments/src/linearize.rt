@@ -131,8 +131,8 @@ fn write_fitted(
             );
         }
         Fit::NoPlane => {
-            frame_rows::clear(residual);
-            frame_rows::clear(jacobian);
+            lists::clear(residual);
+            lists::clear(jacobian);
         }
     }
 }

@@ -1,6 +1,6 @@
 -- What a loop that fills leaves in an array: definitions, then their laws over the number of places filled. Assumes nothing.
 use Prim.Native.Nat.{ℕ, suc, _+_, _-_, _*_, _<_, _≤_}
-use mathlib.Core.Path.{_≡_, refl, ap, _∙_}
+use mathlib.Core.Path.{_≡_, refl, sym, ap, _∙_}
 use mathlib.Core.List.{List, [], _∷_, _++_, append-assoc, append-nil}
 use mathlib.Core.Bool.{Bool, true, false}
 use native.Mathlib.Nat.{not-suc-le-zero, add-zero, sub-zero, zero-mul, suc-mul, le-of-eq, mul-le-mul-right}
@@ -8,7 +8,7 @@ use native.Mathlib.Numerals.{add-one}
 use native.Mathlib.Omega.{arith}
 use lib.Dec.{eqb}
 use lib.ListN.{length, getD, set, length-set, take, drop, replicate, length-append, length-drop, length-replicate, take-append-drop, drop-of-length-le, List·getD-append}
-use lib.Seq.{getD-set-same, getD-set-other, getD-append-add, getD-take, getD-drop, length-take-le, drop-cons, drop-drop, drop-append-add, take-at, set-at}
+use lib.Seq.{ext-getD, getD-set-same, getD-set-other, getD-append-add, getD-take, getD-drop, length-take-le, drop-cons, drop-drop, drop-append-add, take-at, set-at}
 use lib.Ieee.{Float, nan}
 use borrow.Author.Tests.{eqb-true, eqb-false}
 use Rattle.sums.specs.Sum.{zeroF, tab, grid}
@@ -36,6 +36,10 @@ first-more l f n v w e p k h = go (eqb k n) refl
     go : (b : Bool) → eqb k n ≡ b → getD (set l n v) k nan ≡ f k
     go true q = let z : k ≡ n = eqb-true k n q in rw z (getD-set-same l n v nan w ∙ e)
     go false q = let z : k ≡ n → ⊥ = eqb-false k n q in getD-set-other l n k v nan z ∙ p k (omega arith)
+
+-- and at the end
+pub first-all : (n : ℕ) (l : List Float) (f : ℕ → Float) → length l ≡ n → First n l f → l ≡ tab n f
+first-all n l f e h = ext-getD nan l (tab n f) (e ∙ sym (length-tab n f)) (λ k m. let w : k < n = omega arith in h k w ∙ sym (getD-tab n f k w))
 
 -- ---- written: a loop before its first turn, and after one more
 pub written-none : (l : List Float) (from : ℕ) (f : ℕ → Float) → l ≡ written l from 0 f

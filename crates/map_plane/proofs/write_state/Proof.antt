@@ -1,20 +1,18 @@
 -- `map_plane::write_state` meets its contract: column after column. Assumes nothing.
 use Prim.Native.Nat.{_≤_, _-_}
-use mathlib.Core.Path.{_≡_, ap}
+use mathlib.Core.Path.{_≡_}
 use native.Mathlib.Nat.{not-suc-le-zero}
 use native.Mathlib.Omega.{arith}
 use lib.ListN.{length}
-use lib.Ieee.{Float}
-use Rattle.sums.specs.Sum.{_⊗_}
 use Rattle.sums.specs.Fill.{First, first-more}
-use Rattle.map_plane.specs.Linearize.{projected}
+use Rattle.map_plane.specs.Linearize.{stateColumn}
 use borrow.Author.Needs.{needs}
 use Rattle.map_plane.proofs.write_state.Statement.{statement}
 use Rattle.map_plane.proofs.write_state.Tie as tie
 
 abbrev Inv-loop : tie.InvT-loop
 Inv-loop info n columns width row₀ c₀ row c =
-    (c ≤ width) × (length row ≡ length row₀) × First c row (λ i. info ⊗ projected n columns i)
+    (c ≤ width) × (length row ≡ length row₀) × First c row (stateColumn info n columns)
 
 abbrev μ-loop : tie.MeasureT-loop
 μ-loop info n columns width row₀ c₀ row c = width - c
@@ -22,8 +20,7 @@ abbrev μ-loop : tie.MeasureT-loop
 loop-again : tie.Need-loop-again Inv-loop μ-loop
 loop-again c =
     let at = c .before .before .loop in
-    let info = c .before .before .before .before .before .args .info in
-    (search needs, search needs, first-more (at .row) _ (at .c) _ (omega arith) (ap (λ (v : Float). info ⊗ v) (c .project .ensures)) (at .inv .2))
+    (search needs, search needs, first-more (at .row) _ (at .c) _ (omega arith) (c .state-column .ensures) (at .inv .2))
 
 returns : tie.Need-returns Inv-loop μ-loop
 returns c =

@@ -3,10 +3,9 @@ use Prim.Native.Nat.{_≤_, _-_, _/_}
 use mathlib.Core.Path.{_≡_}
 use native.Mathlib.Omega.{arith}
 use lib.ListN.{length}
-use Rattle.sums.specs.Fill.{First, first-none, first-more}
+use Rattle.sums.specs.Fill.{First, first-none, first-more, first-all}
 use Rattle.match_rows.specs.Row.{residualAt}
 use Rattle.map_plane.specs.Match.{MATCH}
-use Rattle.match_columns.specs.Residuals.{first-all}
 use borrow.Author.Needs.{needs}
 use Rattle.match_columns.proofs.write_residuals.Statement.{statement}
 use Rattle.match_columns.proofs.write_residuals.Tie as tie

@@ -1,4 +1,4 @@
--- `frame_rows::clear` meets its contract: after k turns the first k numbers are +0. Assumes nothing.
+-- `lists::clear` meets its contract: after k turns the first k numbers are +0. Assumes nothing.
 use Prim.Native.Nat.{_≤_, _-_}
 use mathlib.Core.Path.{_≡_, refl, sym, _∙_}
 use native.Mathlib.Omega.{arith}
@@ -7,8 +7,8 @@ use lib.ListN.{length, take, replicate, length-set, length-replicate, getD-repli
 use lib.Ieee.{nan}
 use Rattle.sums.specs.Sum.{zeroF}
 use Rattle.sums.specs.Laws.{front-more, front-all}
-use Rattle.frame_rows.proofs.clear.Statement.{statement}
-use Rattle.frame_rows.proofs.clear.Tie as tie
+use Rattle.lists.proofs.clear.Statement.{statement}
+use Rattle.lists.proofs.clear.Tie as tie
 
 abbrev Inv-loop : tie.InvT-loop
 Inv-loop out₀ k₀ out k = (k ≤ length out₀) × (length out ≡ length out₀) × (take k out ≡ take k (replicate (length out₀) zeroF))
