@@ -13,6 +13,8 @@ ghost use Rattle.plane_fit.specs.Calls.{fitRefusal};
 ghost use Rattle.plane_moments.specs.Build.{Builds};
 ghost use Rattle.plane_moments.specs.Accumulate.{framesCall, work};
 ghost use Rattle.plane_moments.specs.Linearize.{Linearizes};
+ghost use Rattle.plane_bundle.specs.Fit.{Fits};
+ghost use Rattle.plane_bundle.specs.Linearize.{Linearizes as BundleLinearizes};
 ghost use Rattle.call_lists.specs.Accumulated.{Accumulated};
 ghost use Rattle.map_planes.specs.Accumulate.{matchesCall};
 ghost use Rattle.map_planes.specs.Linearize.{Linearized};
@@ -227,6 +229,47 @@ pub extern "C" fn maghnelt_frames_linearize(
         sigma,
         actions,
         decompositions,
+        residual,
+        jacobian,
+    )
+}
+
+// The centroid and the scatter of a bundle's points.
+#[no_mangle]
+pub extern "C" fn maghnelt_bundle_fit(
+    counts: &[u32],
+    points: &[f64],
+    fixed: &[f64],
+    out: &mut [f64],
+) -> u32
+    ensures { λ r. ⌜ Fits (now (counts .entry)) (now (points .entry)) (now (fixed .entry)) (now (out .entry)) r (now (out .exit)) ⌝ }
+{
+    plane_bundle::fit(counts, points, fixed, out)
+}
+
+// A residual for each point of a bundle, the fixed ones last, and their Jacobian by columns.
+#[no_mangle]
+pub extern "C" fn maghnelt_bundle_linearize(
+    dof: u32,
+    counts: &[u32],
+    points: &[f64],
+    d_state: &[f64],
+    fixed: &[f64],
+    sigma: f64,
+    decomposition: &[u64],
+    residual: &mut [f64],
+    jacobian: &mut [f64],
+) -> u32
+    ensures { λ r. ⌜ BundleLinearizes (record { dof = dof; counts = now (counts .entry); points = now (points .entry); dState = now («d_state» .entry); fixed = now (fixed .entry); sigma = sigma; decomposition = now (decomposition .entry) }) (now (residual .entry)) (now (jacobian .entry)) r (now (residual .exit)) (now (jacobian .exit)) ⌝ }
+{
+    plane_bundle::linearize(
+        dof,
+        counts,
+        points,
+        d_state,
+        fixed,
+        sigma,
+        decomposition,
         residual,
         jacobian,
     )

@@ -1,0 +1,4 @@
+pub mod Residuals
+pub mod Places
+pub mod Cells
+pub mod Blocks

@@ -1,0 +1,4 @@
+pub mod Calls
+pub mod Fit
+pub mod Linearize
+pub mod Steps
