@@ -37,11 +37,11 @@ extern "C" {
  * applies.
  *
  *  1  the dof is above MAGHNELT_MAX_DOF
- *  2  the frame list or match list is empty
+ *  2  the list of frames, of counts or of matches is empty
  *  3  a slice other than the actions has not the length its counts call for, or a limit is passed
- *  4  some frame's count is at or below 0
- *  5  the frames' counts summed in order, plus the fixed count, are below 3
- *  6  a moment of a frame or the fixed set, or a coordinate of a point, is not finite
+ *  4  some frame's count (in a bundle, its number of points) is at or below 0
+ *  5  the frames' counts summed in order, plus the fixed count (in a bundle, numbers of points), are below 3
+ *  6  a moment of a frame or the fixed set, or a coordinate of a point or a fixed point, is not finite
  *  7  sigma is not finite and positive
  *  8  the actions are not MAGHNELT_ACTION numbers for each frame (one action, for a match list)
  *  9  a word of a map is above MAGHNELT_UNMAPPED
@@ -180,6 +180,31 @@ uint32_t maghnelt_frames_linearize(uint32_t dof, const double *frames, size_t fr
                                    size_t fixed_length, double sigma, const double *actions, size_t actions_length,
                                    const double *decompositions, size_t decompositions_length, double *residual,
                                    size_t residual_length, double *jacobian, size_t jacobian_length);
+
+/* ---- bundles: one plane point by point, 1 to MAGHNELT_MAX_FRAMES frames, and fixed points or none (length 0) ---- */
+
+/*
+ * The centroid (3) of a bundle's points and their scatter about it (9, by columns; divided by the number of points),
+ * for the decomposition that the host makes of the scatter. counts has each frame's number of points, points the
+ * frames' points as they lie in the site, frame after frame, and fixed the points that are known there: 3 numbers a
+ * point, and at most MAGHNELT_MAX_POINTS of both kinds together. out has 12 numbers. Refused by 2, 3, 4, 5 and 6.
+ */
+uint32_t maghnelt_bundle_fit(const uint32_t *counts, size_t counts_length, const double *points, size_t points_length,
+                             const double *fixed, size_t fixed_length, double *out, size_t out_length);
+
+/*
+ * Fits the plane by the decomposition of the scatter that _fit gave (MAGHNELT_DECOMPOSITION numbers, in any order of the
+ * eigenvalues), and writes a residual for each point, (1 / sigma) * (normal . (point - centroid)), the fixed points
+ * last; and the Jacobian with as many rows, column after column, dof columns for each frame: a point of a frame has
+ * numbers in its own frame's columns, all else is zeros. An empty Jacobian is not wanted. d_state has dof columns of 3
+ * numbers for each of points. Every number is written, without a plane (the two least eigenvalues are less than 1e-12
+ * apart) all zeros. Refused by 1 to 7; 6 does not look at d_state.
+ */
+uint32_t maghnelt_bundle_linearize(uint32_t dof, const uint32_t *counts, size_t counts_length, const double *points,
+                                   size_t points_length, const double *d_state, size_t d_state_length,
+                                   const double *fixed, size_t fixed_length, double sigma, const double *decomposition,
+                                   size_t decomposition_length, double *residual, size_t residual_length,
+                                   double *jacobian, size_t jacobian_length);
 
 /* ---- matches on one pose: 1 to MAGHNELT_MAX_MATCHES matches of MAGHNELT_MATCH numbers, and one action ---- */
 

@@ -202,6 +202,60 @@ static void frame_factor(void) {
            "without a plane all residuals are zeros");
 }
 
+/* The corners of a square on the floor and a point above it. */
+static void bundle_fit(void) {
+    const uint32_t counts[] = {4};
+    const uint32_t empty[] = {4, 0};
+    double points[] = {0, 0, 0, 2, 0, 0, 0, 2, 0, 2, 2, 0};
+    const double fixed[] = {1, 1, 5};
+    double out[12] = {7};
+
+    expect(maghnelt_bundle_fit(counts, 0, points, 0, SLICE(fixed), SLICE(out)) == 2, "no frame is refused");
+    expect(maghnelt_bundle_fit(SLICE(counts), points, 9, SLICE(fixed), SLICE(out)) == 3, "fewer points than counted are refused");
+    expect(maghnelt_bundle_fit(SLICE(empty), SLICE(points), SLICE(fixed), SLICE(out)) == 4, "a frame without points is refused");
+    expect(maghnelt_bundle_fit(SLICE(counts), SLICE(points), SLICE(fixed), SLICE(out)) == 0, "points are accepted");
+    expect(out[0] == 1 && out[1] == 1 && out[2] == 1, "centroid of corners and a fixed point");
+    expect(out[3] == 0.8 && out[4] == 0 && out[7] == 0.8 && out[11] == 4, "their scatter, divided by their number");
+    points[5] = NAN;
+    out[0] = 7;
+    expect(maghnelt_bundle_fit(SLICE(counts), SLICE(points), SLICE(fixed), SLICE(out)) == 6 && out[0] == 7,
+           "a point that is not finite is refused, and the output is left");
+}
+
+/* Two frames on both sides of the plane x = 0 and a fixed point, each frame moved along x by one parameter. */
+static void bundle_linearize(void) {
+    const uint32_t counts[] = {1, 2};
+    const uint32_t few[] = {1};
+    const double points[] = {1, 5, 0, -3, 0, 7, 4, -5, 0};
+    const double d_state[] = {1, 9, 9, 2, 9, 9, 3, 9, 9};
+    const double fixed[] = {-2, 0, -7};
+    double decomposition[MAGHNELT_DECOMPOSITION] = {0, 1, 2, 1, 0, 0, 0, 1, 0, 0, 0, 1};
+    double residual[4] = {7};
+    double jacobian[8] = {7};
+
+    expect(maghnelt_bundle_linearize(10, counts, 0, SLICE(points), SLICE(d_state), SLICE(fixed), 0.0, SLICE(decomposition),
+                                     SLICE(residual), SLICE(jacobian)) == 1,
+           "dof 10 is refused");
+    expect(maghnelt_bundle_linearize(1, SLICE(few), points, 3, d_state, 3, SLICE(fixed), 0.0, SLICE(decomposition), residual, 2,
+                                     jacobian, 2) == 5,
+           "two points are refused");
+    expect(maghnelt_bundle_linearize(1, SLICE(counts), SLICE(points), SLICE(d_state), SLICE(fixed), 0.0, SLICE(decomposition),
+                                     SLICE(residual), SLICE(jacobian)) == 7 &&
+               residual[0] == 7 && jacobian[0] == 7,
+           "no sigma is refused, and the outputs are left");
+    expect(maghnelt_bundle_linearize(1, SLICE(counts), SLICE(points), SLICE(d_state), SLICE(fixed), 0.5, SLICE(decomposition),
+                                     SLICE(residual), SLICE(jacobian)) == 0,
+           "residuals and their derivatives");
+    expect(residual[0] == 2 && residual[1] == -6 && residual[2] == 8 && residual[3] == -4, "residuals, the fixed point's last");
+    expect(jacobian[0] == 2 && jacobian[1] == 0 && jacobian[2] == 0 && jacobian[3] == 0, "the first frame's column");
+    expect(jacobian[4] == 0 && jacobian[5] == 4 && jacobian[6] == 6 && jacobian[7] == 0, "the second frame's column");
+    decomposition[1] = 9e-13;
+    expect(maghnelt_bundle_linearize(1, SLICE(counts), SLICE(points), SLICE(d_state), SLICE(fixed), 0.5, SLICE(decomposition),
+                                     SLICE(residual), jacobian, 0) == 0 &&
+               residual[0] == 0 && residual[3] == 0 && jacobian[0] == 2,
+           "without a plane all residuals are zeros, and an empty Jacobian is not wanted");
+}
+
 /* Two matches with the plane x = 0, on a pose that one parameter moves along x. */
 static void matches(void) {
     double list[2 * MAGHNELT_MATCH] = {2, 0, 0, 1, 0, 0, 0, 0.5, -1, 0, 0, 1, 0, 0, 0, 1};
@@ -268,6 +322,8 @@ int main(void) {
     build();
     fit();
     frame_factor();
+    bundle_fit();
+    bundle_linearize();
     matches();
     one_match();
     return failures != 0;

@@ -27,15 +27,15 @@ inline const char *reason_text(std::uint32_t reason) noexcept {
     case 1:
         return "the dof is above 9";
     case 2:
-        return "the frame list or match list is empty";
+        return "the list of frames, of counts or of matches is empty";
     case 3:
         return "a slice other than the actions has not the length its counts call for, or a limit is passed";
     case 4:
-        return "some frame's count is at or below 0";
+        return "some frame's count (in a bundle, its number of points) is at or below 0";
     case 5:
-        return "the frames' counts summed in order, plus the fixed count, are below 3";
+        return "the frames' counts summed in order, plus the fixed count (in a bundle, numbers of points), are below 3";
     case 6:
-        return "a moment of a frame or the fixed set, or a coordinate of a point, is not finite";
+        return "a moment of a frame or the fixed set, or a coordinate of a point or a fixed point, is not finite";
     case 7:
         return "sigma is not finite and positive";
     case 8:
@@ -361,6 +361,77 @@ class FrameFactor {
     CentredList own;
     CentredList known;
     double total = 0.0;
+};
+
+// ---- bundles: one plane point by point ----
+
+// A plane over several frames, by the points of each frame as they lie in the site and points that are fixed there. Each point has
+// a row: first those of the frames, in the order in which they were added, and then the fixed ones. A bundle is of one state of the
+// frames: when they have moved, another one is filled.
+class Bundle {
+  public:
+    // No frame yet; each frame's state has dof parameters.
+    explicit Bundle(std::uint32_t dof) : width(dof) {}
+
+    // A frame more: its points in the site, and their derivatives by its state, dof columns for the first point, then for the next.
+    void add_frame(const Points &points, const Points &d_state) {
+        // Tested here, since what one frame has too many another may have too few.
+        if (d_state.cols() != static_cast<Eigen::Index>(width) * points.cols()) {
+            throw Refused(3);
+        }
+        sizes.push_back(static_cast<std::uint32_t>(points.cols()));
+        placed.insert(placed.end(), points.data(), points.data() + points.size());
+        columns.insert(columns.end(), d_state.data(), d_state.data() + d_state.size());
+    }
+
+    // Points more that are known in the site.
+    void add_fixed(const Points &points) { known.insert(known.end(), points.data(), points.data() + points.size()); }
+
+    // The number of points of each frame, and that of all rows.
+    const std::vector<std::uint32_t> &counts() const { return sizes; }
+    Eigen::Index rows() const { return static_cast<Eigen::Index>((placed.size() + known.size()) / 3); }
+
+    // The mean of all points and their scatter about it, divided by their number.
+    MeanAndScatter fit() const {
+        Eigen::Matrix<double, 3, 4> out;
+        detail::accept(maghnelt_bundle_fit(MAGHNELT_LENT(sizes), MAGHNELT_LENT(placed), MAGHNELT_LENT(known), MAGHNELT_LENT(out)));
+        return {out.col(0), out.rightCols<3>()};
+    }
+
+    // A residual a point, and the Jacobian, dof columns a frame: a row has numbers in the columns of its own frame alone.
+    Rows linearize(double sigma, const Decomposition &fitted) const {
+        const Eigen::Index frames = static_cast<Eigen::Index>(sizes.size());
+        Rows out{Eigen::VectorXd(written()), Eigen::MatrixXd(written(), frames * static_cast<Eigen::Index>(width))};
+        write(sigma, fitted, out.residual, out.jacobian);
+        return out;
+    }
+
+    // The residuals alone.
+    Eigen::VectorXd residual(double sigma, const Decomposition &fitted) const {
+        Eigen::VectorXd out(written());
+        Eigen::MatrixXd none(0, 0);
+        write(sigma, fitted, out, none);
+        return out;
+    }
+
+  private:
+    // No rows where a limit is passed: that is refused whatever is lent, and might ask for more memory than there is.
+    Eigen::Index written() const {
+        const bool refused = width > MAGHNELT_MAX_DOF || sizes.size() > MAGHNELT_MAX_FRAMES || rows() > MAGHNELT_MAX_POINTS;
+        return refused ? 0 : rows();
+    }
+
+    void write(double sigma, const Decomposition &fitted, Eigen::VectorXd &residual, Eigen::MatrixXd &jacobian) const {
+        detail::accept(maghnelt_bundle_linearize(width, MAGHNELT_LENT(sizes), MAGHNELT_LENT(placed), MAGHNELT_LENT(columns),
+                                                 MAGHNELT_LENT(known), sigma, MAGHNELT_LENT(fitted.record()),
+                                                 MAGHNELT_LENT(residual), MAGHNELT_LENT(jacobian)));
+    }
+
+    std::uint32_t width;
+    std::vector<std::uint32_t> sizes;
+    std::vector<double> placed;
+    std::vector<double> columns;
+    std::vector<double> known;
 };
 
 // ---- matches on one pose ----

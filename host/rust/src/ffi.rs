@@ -144,6 +144,35 @@ extern "C" {
         jacobian_length: usize,
     ) -> u32;
 
+    pub(crate) fn maghnelt_bundle_fit(
+        counts: *const u32,
+        counts_length: usize,
+        points: *const f64,
+        points_length: usize,
+        fixed: *const f64,
+        fixed_length: usize,
+        out: *mut f64,
+        out_length: usize,
+    ) -> u32;
+    pub(crate) fn maghnelt_bundle_linearize(
+        dof: u32,
+        counts: *const u32,
+        counts_length: usize,
+        points: *const f64,
+        points_length: usize,
+        d_state: *const f64,
+        d_state_length: usize,
+        fixed: *const f64,
+        fixed_length: usize,
+        sigma: f64,
+        decomposition: *const f64,
+        decomposition_length: usize,
+        residual: *mut f64,
+        residual_length: usize,
+        jacobian: *mut f64,
+        jacobian_length: usize,
+    ) -> u32;
+
     pub(crate) fn maghnelt_matches_accumulate(
         dof: u32,
         matches: *const f64,

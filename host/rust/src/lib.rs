@@ -14,6 +14,7 @@
 //! | [`BlockMap`], [`BlockMap::remapped`] | where the frames of a factor go in the Hessian |
 //! | [`FrameFactor`] | one plane over several frames, built once and then evaluated at many states |
 //! | [`frames_fit`] | the mean and the scatter that a plane is fitted to over several frames |
+//! | [`Bundle`] | one plane over several frames, point by point: centroid and scatter, a residual for each point |
 //! | [`MatchList`] | matches of points with planes on one pose: cost, normal equations, residuals |
 //! | [`NormalEquations`] | the Hessian and the gradient that factors add to |
 //! | [`PlaneMatch::linearize`] | the residual of one match below its chain, and its derivatives |
@@ -45,6 +46,7 @@
 #![warn(missing_docs)]
 
 mod block_map;
+mod bundle;
 mod ffi;
 mod frame_factor;
 mod frames;
@@ -60,6 +62,7 @@ mod square_root;
 mod total_order;
 
 pub use block_map::{BlockMap, UNMAPPED};
+pub use bundle::{Bundle, BundleFit};
 pub use frame_factor::FrameFactor;
 pub use frames::{frames_fit, Action, Centred, FitSums};
 pub use linearized::Linearized;

@@ -39,6 +39,17 @@ impl Linearized {
         self.jacobian[column * rows + row]
     }
 
+    /// The Jacobian's column of that number, a number for each row.
+    ///
+    /// # Panics
+    ///
+    /// If there is no such column.
+    #[must_use]
+    pub fn column(&self, column: usize) -> &[f64] {
+        let rows = self.residual.len();
+        &self.jacobian[column * rows..(column + 1) * rows]
+    }
+
     /// The Jacobian, column after column.
     #[must_use]
     pub fn columns(&self) -> &[f64] {

@@ -64,11 +64,11 @@ reasons! {
     #[derive(Clone, Copy, Debug, PartialEq, Eq, Hash)]
     #[non_exhaustive]
     1 Dof "the dof is above 9"
-    2 EmptyList "the frame list or match list is empty"
+    2 EmptyList "the list of frames, of counts or of matches is empty"
     3 Length "a slice other than the actions has not the length its counts call for, or a limit is passed"
-    4 FrameCount "some frame's count is at or below 0"
-    5 TotalCount "the frames' counts summed in order, plus the fixed count, are below 3"
-    6 NotFinite "a moment of a frame or the fixed set, or a coordinate of a point, is not finite"
+    4 FrameCount "some frame's count (in a bundle, its number of points) is at or below 0"
+    5 TotalCount "the frames' counts summed in order, plus the fixed count (in a bundle, numbers of points), are below 3"
+    6 NotFinite "a moment of a frame or the fixed set, or a coordinate of a point or a fixed point, is not finite"
     7 Sigma "sigma is not finite and positive"
     8 Actions "the actions are not 120 numbers for each frame (one action, for a match list)"
     9 MapWord "a map word has a bad kind or a bad low part"

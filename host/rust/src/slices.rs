@@ -386,6 +386,84 @@ pub fn frames_linearize(
     })
 }
 
+/// Writes the centroid (3) of a bundle's points and their scatter about it (9), divided by the number of points, to
+/// `out`. `counts` has each frame's number of points, `points` the frames' points in the site, frame after frame, and
+/// `fixed` points that are known there; three numbers a point.
+///
+/// # Errors
+///
+/// [`Refusal::EmptyList`]: there is no count; [`Refusal::Length`]: there are more than
+/// [`MAX_FRAMES`](crate::MAX_FRAMES) counts, or more than [`MAX_POINTS`](crate::MAX_POINTS) points with the fixed ones,
+/// `points` are not as many as the counts say, `fixed` is not whole points, or `out` has not 12 numbers; then
+/// [`Refusal::FrameCount`], [`Refusal::TotalCount`] and [`Refusal::NotFinite`].
+#[inline]
+pub fn bundle_fit(
+    counts: &[u32],
+    points: &[f64],
+    fixed: &[f64],
+    out: &mut [f64],
+) -> Result<(), Refusal> {
+    // SAFETY: as said at the head of this file.
+    Refusal::of_answer(unsafe {
+        ffi::maghnelt_bundle_fit(
+            counts.as_ptr(),
+            counts.len(),
+            points.as_ptr(),
+            points.len(),
+            fixed.as_ptr(),
+            fixed.len(),
+            out.as_mut_ptr(),
+            out.len(),
+        )
+    })
+}
+
+/// Writes a residual for each point of a bundle, the fixed ones last, and, if `jacobian` is not empty, their
+/// derivatives: as many rows, and `dof` columns for each frame, column after column. Without a plane they are all
+/// zeros. `d_state` has `dof` columns of three numbers for each of `points`, and `decomposition` is that of the scatter
+/// that [`bundle_fit`] gave.
+///
+/// # Errors
+///
+/// [`Refusal::Dof`]; [`Refusal::EmptyList`]; [`Refusal::Length`]: as in [`bundle_fit`], or `d_state`, `decomposition`,
+/// `residual` or `jacobian` has another length; then [`Refusal::FrameCount`], [`Refusal::TotalCount`],
+/// [`Refusal::NotFinite`], for points and fixed points alone, and [`Refusal::Sigma`].
+#[allow(clippy::too_many_arguments)]
+#[inline]
+pub fn bundle_linearize(
+    dof: u32,
+    counts: &[u32],
+    points: &[f64],
+    d_state: &[f64],
+    fixed: &[f64],
+    sigma: f64,
+    decomposition: &[f64],
+    residual: &mut [f64],
+    jacobian: &mut [f64],
+) -> Result<(), Refusal> {
+    // SAFETY: as said at the head of this file.
+    Refusal::of_answer(unsafe {
+        ffi::maghnelt_bundle_linearize(
+            dof,
+            counts.as_ptr(),
+            counts.len(),
+            points.as_ptr(),
+            points.len(),
+            d_state.as_ptr(),
+            d_state.len(),
+            fixed.as_ptr(),
+            fixed.len(),
+            sigma,
+            decomposition.as_ptr(),
+            decomposition.len(),
+            residual.as_mut_ptr(),
+            residual.len(),
+            jacobian.as_mut_ptr(),
+            jacobian.len(),
+        )
+    })
+}
+
 /// Adds the normal equations of a list of matches to `hessian`, column after column, and `gradient`, at the offset that word
 /// 0 of `map` gives, and writes their cost. Where nothing but the cost is wanted, `map`, `hessian` and `gradient` are empty.
 ///

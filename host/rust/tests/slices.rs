@@ -527,3 +527,88 @@ fn linearized_frames() {
     assert_eq!(call(0, 1.0, [26, 0, two, 36, 12, 0]), Ok(()));
     assert_eq!(call(0, 1.0, [26, 0, two, 36, 12, 1]), Err(Refusal::Length));
 }
+
+#[test]
+fn fitted_bundles() {
+    let ones = vec![1.0; 3 * (MAX_POINTS + 1)];
+    let fit = |counts: &[u32], points: usize, fixed: usize, out: &mut [f64]| {
+        slices::bundle_fit(counts, &ones[..points], &ones[..fixed], out)
+    };
+    let mut out = patterns(12);
+    assert_eq!(fit(&[3, 1], 12, 3, &mut out), Ok(()));
+    assert_eq!(fit(&[3, 1], 12, 0, &mut out), Ok(()));
+    for lengths in wrong([12, 3, 12]) {
+        let [points, fixed, of_out] = lengths;
+        if lengths != [12, 0, 12] {
+            refused(of_out, |out| fit(&[3, 1], points, fixed, out));
+        }
+    }
+    refused_by(Refusal::EmptyList, 11, |out| fit(&[], 1, 1, out));
+    // Sums that would wrap round in 32 bits, limits, and a length with the reasons after it.
+    for (counts, points, fixed) in [
+        (&[u32::MAX, 2][..], 3, 6),
+        (&[u32::MAX; MAX_FRAMES], 3, 6),
+        (&[1; MAX_FRAMES + 1], 3 * (MAX_FRAMES + 1), 0),
+        (&[1], 3, 3 * MAX_POINTS),
+        (&[MAX_POINTS as u32, 1], 3 * (MAX_POINTS + 1), 0),
+        (&[2, 0], 3, 0),
+    ] {
+        refused(12, |out| fit(counts, points, fixed, out));
+    }
+    refused_by(Refusal::FrameCount, 12, |out| fit(&[2, 0], 6, 0, out));
+    refused_by(Refusal::TotalCount, 12, |out| fit(&[1], 3, 3, out));
+}
+
+#[test]
+fn linearized_bundles() {
+    let ones = vec![1.0; 64];
+    let call = |dof: u32, sigma: f64, counts: &[u32], lengths: [usize; 6]| {
+        let [points, d_state, fixed, decomposition, of_residual, of_jacobian] = lengths;
+        let (mut residual, mut jacobian) = (patterns(of_residual), patterns(of_jacobian));
+        let answer = slices::bundle_linearize(
+            dof,
+            counts,
+            &ones[..points],
+            &ones[..d_state],
+            &ones[..fixed],
+            sigma,
+            // Without a plane.
+            &ones[..decomposition],
+            &mut residual,
+            &mut jacobian,
+        );
+        match answer {
+            Ok(()) => assert!(residual.iter().chain(&jacobian).all(|x| x.to_bits() == 0)),
+            Err(_) => {
+                assert_eq!(bits(&residual), bits(&patterns(of_residual)));
+                assert_eq!(bits(&jacobian), bits(&patterns(of_jacobian)));
+            }
+        }
+        answer
+    };
+    // Two frames, dof 2 and a fixed point: four rows and four columns.
+    let right = [9, 18, 3, DECOMPOSITION, 4, 16];
+    assert_eq!(call(2, 1.0, &[2, 1], right), Ok(()));
+    assert_eq!(call(2, 0.0, &[2, 1], right), Err(Refusal::Sigma));
+    // Residuals alone, with the fixed point and without.
+    let alone = [
+        [9, 18, 3, DECOMPOSITION, 4, 0],
+        [9, 18, 0, DECOMPOSITION, 3, 0],
+    ];
+    for lengths in wrong(right) {
+        let expected = if alone.contains(&lengths) {
+            Ok(())
+        } else {
+            Err(Refusal::Length)
+        };
+        assert_eq!(call(2, 1.0, &[2, 1], lengths), expected, "{lengths:?}");
+        assert_eq!(call(2, 0.0, &[], lengths), Err(Refusal::EmptyList));
+        assert_eq!(call(10, 0.0, &[], lengths), Err(Refusal::Dof));
+    }
+    let no_columns = [9, 0, 3, DECOMPOSITION, 4, 0];
+    assert_eq!(call(0, 1.0, &[2, 1], no_columns), Ok(()));
+    assert_eq!(
+        call(0, 1.0, &[2, 1], [9, 0, 3, DECOMPOSITION, 4, 1]),
+        Err(Refusal::Length)
+    );
+}
