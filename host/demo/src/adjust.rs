@@ -1,9 +1,10 @@
-//! Gauss-Newton over the plane factors: the poses are moved until the walls are as thin as they get.
+//! Gauss-Newton over the planes: the poses are moved until the walls are as thin as they get.
 
+use crate::equations::{Equations, RawPlane, Trouble, Way};
 use crate::job::{moments, Job};
 use crate::lapack;
 use crate::pose::{Pose, Vector, DOF};
-use maghnelt::{BlockMap, FrameFactor, Moments, NormalEquations, Refusal};
+use maghnelt::{BlockMap, FrameFactor, Moments, NormalEquations};
 use std::fmt;
 
 /// The most steps that are taken.
@@ -22,8 +23,8 @@ pub struct PlaneFactor {
     pub poses: Vec<usize>,
     /// What each of them saw, as it saw it.
     pub own: Vec<Moments>,
-    /// The library's factor of it.
-    pub factor: FrameFactor,
+    /// What it adds to the normal equations.
+    pub equations: Equations,
     /// Where the rows of each pose begin in the Hessian.
     pub map: BlockMap,
 }
@@ -43,6 +44,7 @@ pub struct Adjustment {
     /// Whether points that are known say where the site is.
     anchored: bool,
     sigma: f64,
+    way: Way,
 }
 
 /// How things stand after some steps.
@@ -59,17 +61,12 @@ pub struct Progress {
 /// Why there is no adjustment.
 #[derive(Clone, Debug, PartialEq)]
 pub enum Failure {
-    /// The library refused what a surface has.
-    Refused {
+    /// A surface has no equations.
+    Surface {
         /// The surface's name.
         surface: String,
         /// Why.
-        refusal: Refusal,
-    },
-    /// LAPACK found no eigenvalues for a surface.
-    NoDecomposition {
-        /// The surface's name.
-        surface: String,
+        trouble: Trouble,
     },
     /// No two poses saw the same surface.
     NothingShared,
@@ -83,10 +80,7 @@ pub enum Failure {
 impl fmt::Display for Failure {
     fn fmt(&self, f: &mut fmt::Formatter<'_>) -> fmt::Result {
         match self {
-            Failure::Refused { surface, refusal } => write!(f, "surface {surface:?}: {refusal}"),
-            Failure::NoDecomposition { surface } => {
-                write!(f, "surface {surface:?}: its scatter has no eigenvalues")
-            }
+            Failure::Surface { surface, trouble } => write!(f, "surface {surface:?}: {trouble}"),
             Failure::NothingShared => {
                 f.write_str("no surface was seen twice, so nothing ties the poses together")
             }
@@ -101,12 +95,12 @@ impl fmt::Display for Failure {
 impl std::error::Error for Failure {}
 
 impl Adjustment {
-    /// Takes the moments of what each pose saw of each surface, and builds the factors.
+    /// Takes what each pose saw of each surface, and has the planes' equations made that way.
     ///
     /// # Errors
     ///
-    /// If no surface was seen twice, or the library refuses one.
-    pub fn new(job: &Job) -> Result<Adjustment, Failure> {
+    /// If no surface was seen twice, the library refuses one, or one has too many points for that way.
+    pub fn new(job: &Job, way: Way) -> Result<Adjustment, Failure> {
         let poses = job.stations.len();
         let offsets = (0..poses).map(|pose| Some((pose * DOF) as u32));
         let mut adjustment = Adjustment {
@@ -117,13 +111,11 @@ impl Adjustment {
             rows: poses * DOF,
             anchored: job.points().1 > 0,
             sigma: job.sigma,
+            way,
         };
         for (surface, frames) in job.seen().into_iter().enumerate() {
-            let refused = |refusal| Failure::Refused {
-                surface: job.surfaces[surface].name.clone(),
-                refusal,
-            };
-            adjustment.add(job, surface, &frames).map_err(refused)?;
+            let added = adjustment.add(job, surface, frames);
+            added.map_err(|trouble| of_surface(job, surface, trouble))?;
         }
         if adjustment.planes.is_empty() {
             return Err(Failure::NothingShared);
@@ -135,27 +127,32 @@ impl Adjustment {
         &mut self,
         job: &Job,
         surface: usize,
-        frames: &[(usize, Vec<Vector>)],
-    ) -> Result<(), Refusal> {
-        let poses: Vec<usize> = frames.iter().map(|(pose, _)| *pose).collect();
-        let own: Result<Vec<Moments>, Refusal> = frames.iter().map(|(_, p)| moments(p)).collect();
-        let own = own?;
+        frames: Vec<(usize, Vec<Vector>)>,
+    ) -> Result<(), Trouble> {
+        let (poses, points): (Vec<usize>, Vec<Vec<Vector>>) = frames.into_iter().unzip();
+        let own = points.iter().map(|p| moments(p));
+        let own: Vec<Moments> = own.collect::<Result<_, _>>()?;
         let known = &job.surfaces[surface].fixed;
         if poses.is_empty() || poses.len() + usize::from(!known.is_empty()) < 2 {
             self.unused.push(surface);
             return Ok(());
         }
-        let fixed = moments(known)?;
-        let fixed = (!known.is_empty()).then_some(&fixed);
-        let factor = FrameFactor::new(DOF as u32, &own, fixed, self.sigma)?;
+        let equations = match self.way {
+            Way::Moments => {
+                let fixed = moments(known)?;
+                let fixed = (!known.is_empty()).then_some(&fixed);
+                Equations::Moments(FrameFactor::new(DOF as u32, &own, fixed, self.sigma)?)
+            }
+            Way::Points => Equations::Points(RawPlane::new(points, known.clone(), self.sigma)?),
+        };
         let list = BlockMap::new(poses.iter().map(|&pose| Some(pose as u32)))?;
-        self.points += factor.points();
+        self.points += equations.points();
         self.planes.push(PlaneFactor {
             surface,
             map: self.map.remapped(&list),
             poses,
             own,
-            factor,
+            equations,
         });
         Ok(())
     }
@@ -164,7 +161,7 @@ impl Adjustment {
     ///
     /// # Errors
     ///
-    /// If a pose is not held by what it saw, or the library refuses a plane.
+    /// If a pose is not held by what it saw, or a plane has no equations.
     pub fn settle(
         &self,
         job: &Job,
@@ -206,12 +203,11 @@ impl Adjustment {
         }
     }
 
-    /// The normal equations and the cost at these poses: for each plane the fit's mean and scatter, LAPACK's decomposition of it,
-    /// and what the plane adds.
+    /// The normal equations and the cost at these poses: what each plane adds.
     ///
     /// # Errors
     ///
-    /// If the library refuses a plane or LAPACK finds no eigenvalues.
+    /// If a plane has no equations.
     pub fn normal_equations(
         &self,
         job: &Job,
@@ -220,19 +216,9 @@ impl Adjustment {
         let mut normal = NormalEquations::zeros(self.rows);
         let mut cost = 0.0;
         for plane in &self.planes {
-            let surface = || job.surfaces[plane.surface].name.clone();
-            let refused = |refusal| Failure::Refused {
-                surface: surface(),
-                refusal,
-            };
-            let actions: Vec<_> = plane.poses.iter().map(|&p| poses[p].action()).collect();
-            let sums = plane.factor.fit(&actions).map_err(refused)?;
-            let found = lapack::decomposition(&sums.scatter)
-                .ok_or_else(|| Failure::NoDecomposition { surface: surface() })?;
-            cost += plane
-                .factor
-                .accumulate(&actions, &found, &plane.map, &mut normal)
-                .map_err(refused)?;
+            let at: Vec<Pose> = plane.poses.iter().map(|&p| poses[p]).collect();
+            let added = plane.equations.add(&at, &plane.map, &mut normal);
+            cost += added.map_err(|trouble| of_surface(job, plane.surface, trouble))?;
         }
         Ok((normal, cost))
     }
@@ -264,5 +250,12 @@ impl Adjustment {
         };
         let loose = (0..self.rows).step_by(DOF).position(is_loose);
         loose.map(|pose| Failure::Loose { pose: pose + 1 })
+    }
+}
+
+fn of_surface(job: &Job, surface: usize, trouble: Trouble) -> Failure {
+    Failure::Surface {
+        surface: job.surfaces[surface].name.clone(),
+        trouble,
     }
 }

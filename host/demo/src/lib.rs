@@ -5,7 +5,8 @@
 //! |---|---|
 //! | [`job`] | poses and points, from a file |
 //! | [`room`] | the same, made of a seed |
-//! | [`adjust`] | Gauss-Newton over the plane factors |
+//! | [`adjust`] | Gauss-Newton over the planes |
+//! | [`equations`] | what a plane adds to a step, by moments or point by point |
 //! | [`saves`] | the story of the wall |
 //! | [`picture`] | the plan view |
 //! | [`speed`] | ten thousand planes against the clock |
@@ -15,6 +16,7 @@
 #![warn(missing_docs)]
 
 pub mod adjust;
+pub mod equations;
 pub mod job;
 pub mod lapack;
 pub mod options;

@@ -1,6 +1,7 @@
 //! What `./run` shows: a room scanned on a walk, its poses adjusted until the walls are thin, and the story of a wall.
 
-use maghnelt_demo::adjust::{Adjustment, Progress};
+use maghnelt_demo::adjust::{Adjustment, PlaneFactor, Progress};
+use maghnelt_demo::equations::Way;
 use maghnelt_demo::job::Job;
 use maghnelt_demo::options::{Options, HELP};
 use maghnelt_demo::picture::Picture;
@@ -63,10 +64,13 @@ fn run(options: &Options) -> Result<(), Box<dyn Error>> {
         counted(seen, "point"),
         counted(job.surfaces.len(), "surface")
     );
-    let adjustment = Adjustment::new(&job)?;
-    show_factors(&job, &adjustment);
+    let adjustment = Adjustment::new(&job, options.way)?;
+    show_planes(&job, &adjustment, options.way);
     let wall = wall(options, &job, &adjustment)?;
     let (adjusted, steps) = settle(&job, &adjustment)?;
+    if options.way == Way::Points {
+        compare_with_moments(&job, &adjusted)?;
+    }
     let odometry: Vec<Pose> = job.stations.iter().map(|s| s.pose).collect();
     let plane = &adjustment.planes[wall];
     let name = &job.surfaces[plane.surface].name;
@@ -90,7 +94,7 @@ fn run(options: &Options) -> Result<(), Box<dyn Error>> {
     write_file(file, &picture.svg())?;
     println!();
     println!("The picture is in {file}.");
-    show_speed(options.seed)?;
+    show_speed(options)?;
     println!("Done in {:.1} s.", start.elapsed().as_secs_f64());
     Ok(())
 }
@@ -117,14 +121,14 @@ fn counted(number: usize, thing: &str) -> String {
     format!("{number} {thing}{more}")
 }
 
-fn show_factors(job: &Job, adjustment: &Adjustment) {
-    let frames: usize = adjustment
-        .planes
-        .iter()
-        .map(|p| p.factor.frames().len())
-        .sum();
+fn show_planes(job: &Job, adjustment: &Adjustment, way: Way) {
+    let frames: usize = adjustment.planes.iter().map(|p| p.poses.len()).sum();
+    let what = match way {
+        Way::Moments => "each frame's moments stand for its points from here on",
+        Way::Points => "each point keeps a row of its own",
+    };
     println!(
-        "{} with {}: each frame's moments stand for its points from here on.",
+        "{} with {}: {what}.",
         counted(adjustment.planes.len(), "plane"),
         counted(frames, "frame")
     );
@@ -184,6 +188,21 @@ fn settle(
     Ok((adjusted, steps))
 }
 
+/// How far from the poses adjusted point by point those adjusted by moments are.
+fn compare_with_moments(job: &Job, adjusted: &[Pose]) -> Result<(), Box<dyn Error>> {
+    let by_moments = Adjustment::new(job, Way::Moments)?.settle(job, |_, _| {})?;
+    let off = adjusted.iter().zip(&by_moments).map(|(a, b)| a.distance(b));
+    let (metres, radians) = off.fold((0.0f64, 0.0f64), |most, one| {
+        (most.0.max(one.0), most.1.max(one.1))
+    });
+    println!(
+        "By moments no pose ends more than {:.1e} mm and {:.1e}° from there.",
+        1000.0 * metres,
+        radians.to_degrees()
+    );
+    Ok(())
+}
+
 /// A bar that is four signs longer for each doubling above a millimetre.
 fn bar(millimetres: f64) -> String {
     let signs = (4.0 * millimetres.max(1.0).log2()).round().min(40.0);
@@ -193,8 +212,7 @@ fn bar(millimetres: f64) -> String {
 /// The plane of the story: the one asked for, the room's alcove, or the job's first.
 fn wall(options: &Options, job: &Job, adjustment: &Adjustment) -> Result<usize, String> {
     let named = |name: &str| {
-        let is =
-            |plane: &maghnelt_demo::adjust::PlaneFactor| job.surfaces[plane.surface].name == name;
+        let is = |plane: &PlaneFactor| job.surfaces[plane.surface].name == name;
         adjustment.planes.iter().position(is)
     };
     match &options.wall {
@@ -236,15 +254,21 @@ fn show_story(name: &str, story: &Story) {
     }
 }
 
-fn show_speed(seed: u64) -> Result<(), Box<dyn Error>> {
-    let times = speed::measure(seed)?;
-    let each = times.pass.as_secs_f64() * 1e6 / speed::PLANES as f64;
+fn show_speed(options: &Options) -> Result<(), Box<dyn Error>> {
+    let times = speed::measure(options.seed, options.way)?;
+    let [build, pass] = [times.build, times.pass].map(|time| time.as_secs_f64() * 1e3);
+    let what = match options.way {
+        Way::Moments => {
+            format!("factors built in {build:.0} ms, one pass of fit, dsyev and accumulate")
+        }
+        Way::Points => {
+            "one pass of points carried into the site, fit, dsyev, linearize and JᵀJ".to_owned()
+        }
+    };
+    let each = 1e3 * pass / speed::PLANES as f64;
     println!(
-        "Ten thousand planes, {} frames, {} points: factors built in {:.0} ms, one pass of fit, dsyev and accumulate {:.0} ms, {each:.1} µs a plane.",
-        times.frames,
-        times.points,
-        times.build.as_secs_f64() * 1e3,
-        times.pass.as_secs_f64() * 1e3,
+        "Ten thousand planes, {} frames, {} points: {what} {pass:.0} ms, {each:.1} µs a plane.",
+        times.frames, times.points
     );
     Ok(())
 }

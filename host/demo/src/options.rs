@@ -1,5 +1,6 @@
 //! What a user may ask for.
 
+use crate::equations::Way;
 use crate::job::MAX_POSES;
 
 /// The text of `--help`.
@@ -10,6 +11,7 @@ options
   --seed N          another room's noise, walk and odometry (60)
   --poses N         how many poses the walk has, 3 to 170 (30)
   --job FILE        a job of one's own in place of the room; README.md describes the file
+  --bundle          adjusts point by point in place of moments; no surface may then have more than 65536 points
   --wall NAME       the surface whose story is told (the alcove wall, or a job's first surface)
   --picture FILE    where the picture goes (target/room.svg)
   --write-job FILE  writes the room's job as a file and stops
@@ -25,6 +27,8 @@ pub struct Options {
     pub poses: usize,
     /// A job file in place of the room.
     pub job: Option<String>,
+    /// How the planes' equations are made.
+    pub way: Way,
     /// The surface of the story.
     pub wall: Option<String>,
     /// Where the picture goes, if somewhere else.
@@ -46,6 +50,7 @@ impl Options {
             seed: 60,
             poses: 30,
             job: None,
+            way: Way::Moments,
             wall: None,
             picture: None,
             write_job: None,
@@ -69,6 +74,7 @@ impl Options {
                     room_asked = Some(option);
                 }
                 "--job" => options.job = Some(value()?),
+                "--bundle" => options.way = Way::Points,
                 "--wall" => options.wall = Some(value()?),
                 "--picture" => options.picture = Some(value()?),
                 "--write-job" => options.write_job = Some(value()?),
@@ -83,6 +89,9 @@ impl Options {
             }
             (Some(_), _, Some(_)) => {
                 Err("--write-job writes the room's job, and --job brings its own".into())
+            }
+            (_, _, Some(_)) if options.way == Way::Points => {
+                Err("--write-job adjusts nothing, neither by --bundle nor by moments".into())
             }
             _ => Ok(options),
         }
@@ -109,6 +118,8 @@ mod tests {
         assert_eq!((options.seed, options.poses), (7, 12));
         assert_eq!(options.picture.as_deref(), Some("a.svg"));
         assert_eq!(read("").unwrap().poses, 30);
+        assert_eq!(read("").unwrap().way, Way::Moments);
+        assert_eq!(read("--job a --bundle").unwrap().way, Way::Points);
         assert!(read("--help").unwrap().help);
     }
 
@@ -127,6 +138,10 @@ mod tests {
             (
                 "--job a --seed 1",
                 "--seed makes a room, and --job brings its own",
+            ),
+            (
+                "--bundle --write-job a",
+                "--write-job adjusts nothing, neither by --bundle nor by moments",
             ),
         ] {
             assert_eq!(read(line), Err(says.to_owned()));

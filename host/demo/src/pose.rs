@@ -79,6 +79,16 @@ impl Pose {
         })
     }
 
+    /// The derivatives of a point in the site, which the frame saw at `point`, by a step of the adjustment: `(R, −R·[p]×)`.
+    #[must_use]
+    pub fn columns(&self, point: &Vector) -> [Vector; DOF] {
+        let [x, y, z] = self.rotation;
+        let [about_x, about_y, about_z] = Pose::ORIGIN
+            .rotation
+            .map(|axis| times(&self.rotation, &cross(&axis, point)));
+        [x, y, z, about_x, about_y, about_z]
+    }
+
     /// What the library is told of the pose.
     #[must_use]
     pub fn action(&self) -> Action {
@@ -176,6 +186,24 @@ mod tests {
     fn yaw_takes_x_to_y() {
         let pose = Pose::new([0.0; 3], [std::f64::consts::FRAC_PI_2, 0.0, 0.0]);
         assert!(close(&pose.to_site(&[1.0, 0.0, 0.0]), &[0.0, 1.0, 0.0]));
+    }
+
+    #[test]
+    fn columns_are_where_a_step_takes_a_point() {
+        const H: f64 = 1e-5;
+        let pose = Pose::new([1.0, -2.0, 0.5], [0.7, -0.2, 0.1]);
+        let point = [3.0, 4.0, 5.0];
+        for (c, column) in pose.columns(&point).iter().enumerate() {
+            let at = |h: f64| {
+                let mut step = [0.0; DOF];
+                step[c] = h;
+                pose.moved(&step).to_site(&point)
+            };
+            // What the difference leaves out is of the order of H², and rounding of 1e-15 / H.
+            let slope: Vector = std::array::from_fn(|r| (at(H)[r] - at(-H)[r]) / (2.0 * H));
+            let off: Vector = std::array::from_fn(|r| slope[r] - column[r]);
+            assert!(norm(&off) < 1e-8, "{c}: {slope:?} {column:?}");
+        }
     }
 
     #[test]

@@ -1,5 +1,6 @@
 //! Ten thousand planes against the clock.
 
+use crate::equations::{Equations, RawPlane, Trouble, Way};
 use crate::lapack;
 use crate::pose::{Pose, Vector, DOF};
 use crate::random::Random;
@@ -17,9 +18,9 @@ const SIGMA: f64 = 0.002;
 /// What was timed.
 #[derive(Clone, Copy, Debug)]
 pub struct Times {
-    /// Moments of all points and the factors built of them.
+    /// Moments of all points and the factors built of them; point by point there is nothing to build.
     pub build: Duration,
-    /// One pass over all planes: fit, decomposition, accumulation.
+    /// One pass over all planes: fit, decomposition, and what they add.
     pub pass: Duration,
     /// How many frames the planes have, and how many points.
     pub frames: usize,
@@ -32,7 +33,7 @@ pub struct Times {
 /// # Errors
 ///
 /// What the library refuses.
-pub fn measure(seed: u64) -> Result<Times, Refusal> {
+pub fn measure(seed: u64, way: Way) -> Result<Times, Trouble> {
     let mut random = Random::new(seed);
     let pose = |random: &mut Random| Pose::new(random.normals(3.0), random.normals(0.5));
     let poses: Vec<Pose> = (0..POSES).map(|_| pose(&mut random)).collect();
@@ -40,9 +41,23 @@ pub fn measure(seed: u64) -> Result<Times, Refusal> {
         .map(|plane| patch(plane, &poses, &mut random))
         .collect();
 
+    let (build, pass) = match way {
+        Way::Moments => by_moments(&seen, &poses)?,
+        Way::Points => (Duration::ZERO, by_points(seen, &poses)?),
+    };
+    Ok(Times {
+        build,
+        pass,
+        frames: PLANES * FRAMES,
+        points: PLANES * FRAMES * POINTS,
+    })
+}
+
+/// How long the factors and a pass over them take.
+fn by_moments(seen: &[Vec<Vec<Vector>>], poses: &[Pose]) -> Result<(Duration, Duration), Trouble> {
     let start = Instant::now();
     let mut built: Vec<FrameFactor> = Vec::with_capacity(PLANES);
-    for frames in &seen {
+    for frames in seen {
         let own: Result<Vec<Moments>, Refusal> = frames
             .iter()
             .map(|points| Moments::from_points(points))
@@ -53,27 +68,51 @@ pub fn measure(seed: u64) -> Result<Times, Refusal> {
 
     let start = Instant::now();
     let mut normal = NormalEquations::zeros(POSES * DOF);
-    let map = BlockMap::new((0..POSES).map(|pose| Some((pose * DOF) as u32)))?;
+    let map = whole_map()?;
     let actions: Vec<Action> = poses.iter().map(Pose::action).collect();
     for (plane, factor) in built.iter().enumerate() {
         let of_plane: Vec<Action> = (0..FRAMES).map(|f| actions[seer(plane, f)]).collect();
-        let list = BlockMap::new((0..FRAMES).map(|f| Some(seer(plane, f) as u32)))?;
         let sums = factor.fit(&of_plane)?;
         let found = lapack::decomposition(&sums.scatter).expect("points of a patch are finite");
-        let map = map.remapped(&list);
+        let map = map.remapped(&list(plane)?);
         factor.accumulate(&of_plane, &found, &map, &mut normal)?;
     }
     let pass = start.elapsed();
+    are_finite(&normal);
+    Ok((build, pass))
+}
+
+/// How long a pass over the planes takes, point by point.
+fn by_points(seen: Vec<Vec<Vec<Vector>>>, poses: &[Pose]) -> Result<Duration, Trouble> {
+    let raw = |frames| RawPlane::new(frames, Vec::new(), SIGMA).map(Equations::Points);
+    let planes: Vec<Equations> = seen.into_iter().map(raw).collect::<Result<_, _>>()?;
+    let start = Instant::now();
+    let mut normal = NormalEquations::zeros(POSES * DOF);
+    let map = whole_map()?;
+    for (plane, equations) in planes.iter().enumerate() {
+        let of_plane: Vec<Pose> = (0..FRAMES).map(|f| poses[seer(plane, f)]).collect();
+        equations.add(&of_plane, &map.remapped(&list(plane)?), &mut normal)?;
+    }
+    let pass = start.elapsed();
+    are_finite(&normal);
+    Ok(pass)
+}
+
+/// Where the rows of each pose begin.
+fn whole_map() -> Result<BlockMap, Refusal> {
+    BlockMap::new((0..POSES).map(|pose| Some((pose * DOF) as u32)))
+}
+
+/// The poses that see a plane.
+fn list(plane: usize) -> Result<BlockMap, Refusal> {
+    BlockMap::new((0..FRAMES).map(|f| Some(seer(plane, f) as u32)))
+}
+
+fn are_finite(normal: &NormalEquations) {
     assert!(
         normal.gradient().iter().all(|g| g.is_finite()),
         "finite points give finite blocks"
     );
-    Ok(Times {
-        build,
-        pass,
-        frames: PLANES * FRAMES,
-        points: PLANES * FRAMES * POINTS,
-    })
 }
 
 /// The pose that is frame `f` of a plane.

@@ -58,23 +58,35 @@ fn a_run_shows_the_job_and_draws_it() {
     assert!(picture.starts_with("<svg"));
 }
 
+/// The lines of the steps in what a run says.
+fn table(said: &str) -> Vec<&str> {
+    let lines = said.lines().skip_while(|line| !line.starts_with("  step"));
+    let steps: Vec<&str> = lines.take_while(|line| !line.is_empty()).collect();
+    assert!(steps.len() > 2, "{said}");
+    steps
+}
+
 #[test]
-fn a_job_that_was_written_runs() {
+fn a_job_that_was_written_runs_by_moments_and_point_by_point() {
     let folder = Folder::new("written");
     folder.says(&["--seed", "4", "--poses", "8", "--write-job", "room.csv"]);
-    let said = folder.says(&[
-        "--job",
-        "room.csv",
-        "--wall",
-        "east wall",
-        "--picture",
-        "east.svg",
-    ]);
-    assert!(
-        said.contains("8 poses saw") && said.contains("\"east wall\" stands"),
-        "{said}"
-    );
-    assert!(folder.0.join("east.svg").is_file());
+    let by = |words: &[&str], picture: &str| {
+        let common = ["--job", "room.csv", "--wall", "east wall", "--picture"];
+        let said = folder.says(&[&common[..], &[picture], words].concat());
+        assert!(
+            said.contains("8 poses saw") && said.contains("\"east wall\" stands"),
+            "{said}"
+        );
+        (said, fs::read_to_string(folder.0.join(picture)).unwrap())
+    };
+    let (by_moments, drawn) = by(&[], "east.svg");
+    let (by_points, drawn_again) = by(&["--bundle"], "again.svg");
+    // To the digits that are shown.
+    assert_eq!(table(&by_points), table(&by_moments));
+    assert_eq!(drawn_again, drawn);
+    let only_points = "By moments no pose ends more than";
+    assert!(by_points.contains(only_points), "{by_points}");
+    assert!(!by_moments.contains(only_points), "{by_moments}");
 }
 
 #[test]

@@ -1,6 +1,8 @@
 //! Jobs as files: what is written is read again, each mistake is named with its line, and what a job is short of is said.
 
+use maghnelt::MAX_POINTS;
 use maghnelt_demo::adjust::{Adjustment, Failure};
+use maghnelt_demo::equations::Way;
 use maghnelt_demo::job::Job;
 use maghnelt_demo::picture::Picture;
 use maghnelt_demo::pose::Pose;
@@ -95,10 +97,12 @@ fn squares(axes: &[usize]) -> Job {
 
 #[test]
 fn a_loose_pose_is_named() {
-    let settle = |job: &Job| Adjustment::new(job).unwrap().settle(job, |_, _| {});
-    assert_eq!(settle(&squares(&[2])), Err(Failure::Loose { pose: 1 }));
-    assert_eq!(settle(&squares(&[1, 2])), Err(Failure::Loose { pose: 1 }));
-    assert!(settle(&squares(&[0, 1, 2])).is_ok());
+    for way in [Way::Moments, Way::Points] {
+        let settle = |job: &Job| Adjustment::new(job, way).unwrap().settle(job, |_, _| {});
+        assert_eq!(settle(&squares(&[2])), Err(Failure::Loose { pose: 1 }));
+        assert_eq!(settle(&squares(&[1, 2])), Err(Failure::Loose { pose: 1 }));
+        assert!(settle(&squares(&[0, 1, 2])).is_ok());
+    }
 }
 
 #[test]
@@ -106,10 +110,13 @@ fn surfaces_seen_once_are_left_out() {
     let mut job = squares(&[0, 1, 2]);
     let lone = job.surface("lone");
     job.stations[0].points.push((lone, [1.0, 1.0, 1.0]));
-    assert_eq!(Adjustment::new(&job).unwrap().unused, [lone]);
+    assert_eq!(Adjustment::new(&job, Way::Moments).unwrap().unused, [lone]);
 
     job.stations.truncate(1);
-    assert_eq!(Adjustment::new(&job).unwrap_err(), Failure::NothingShared);
+    assert_eq!(
+        Adjustment::new(&job, Way::Moments).unwrap_err(),
+        Failure::NothingShared
+    );
 }
 
 #[test]
@@ -119,17 +126,37 @@ fn what_the_library_refuses_is_said() {
     for station in &mut job.stations {
         station.points.push((thin, [1.0, 1.0, 1.0]));
     }
-    let refused = Adjustment::new(&job).unwrap_err();
+    let says =
+        "surface \"thin\": reason 5: the frames' counts summed in order, plus the fixed count \
+                (in a bundle, numbers of points), are below 3";
+    let refused = Adjustment::new(&job, Way::Moments).unwrap_err();
+    assert_eq!(refused.to_string(), says);
+    // Points are tested when they are carried into the site.
+    let adjustment = Adjustment::new(&job, Way::Points).unwrap();
+    let refused = adjustment.settle(&job, |_, _| {}).unwrap_err();
+    assert_eq!(refused.to_string(), says);
+}
+
+#[test]
+fn a_surface_of_too_many_points_is_said() {
+    let mut job = squares(&[0, 1, 2]);
+    let known = &mut job.surfaces[1].fixed;
+    // Ten points were seen.
+    known.resize(MAX_POINTS - 10, [1.0, 5.0, 1.0]);
+    assert!(Adjustment::new(&job, Way::Points).is_ok());
+    job.surfaces[1].fixed.push([1.0, 5.0, 1.0]);
     assert_eq!(
-        refused.to_string(),
-        "surface \"thin\": reason 5: the frames' counts summed in order, plus the fixed count, are below 3"
+        Adjustment::new(&job, Way::Points).unwrap_err().to_string(),
+        "surface \"square 1\": its 65537 points are more than the 65536 that a plane takes point by point; \
+         without --bundle moments stand for them"
     );
+    assert!(Adjustment::new(&job, Way::Moments).is_ok());
 }
 
 #[test]
 fn own_moments_stay_and_moved_sums_walk_off() {
     let job = room::job(60, 30);
-    let adjustment = Adjustment::new(&job).unwrap();
+    let adjustment = Adjustment::new(&job, Way::Moments).unwrap();
     let adjusted = adjustment.settle(&job, |_, _| {}).unwrap();
     let odometry: Vec<Pose> = job.stations.iter().map(|s| s.pose).collect();
     let is_wall = |surface: usize| job.surfaces[surface].name == room::STORY_WALL;

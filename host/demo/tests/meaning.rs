@@ -1,12 +1,13 @@
-//! What the numbers mean, beyond their bits: H = JᵀJ and g = Jᵀr, g is the slope of the cost, and Gauss-Newton brings the
-//! walls down to the noise.
+//! What the numbers mean, beyond their bits: H = JᵀJ and g = Jᵀr, g is the slope of the cost, points and their moments mean the
+//! same, and Gauss-Newton brings the walls down to the noise.
 
 use maghnelt::{
-    Action, BlockMap, Centred, Decomposition, FrameFactor, Linearized, MatchList, Moments,
+    Action, BlockMap, Bundle, Centred, Decomposition, FrameFactor, Linearized, MatchList, Moments,
     NormalEquations, Plane, PlaneMatch,
 };
 use maghnelt_demo::adjust::{Adjustment, Progress};
-use maghnelt_demo::job::Job;
+use maghnelt_demo::equations::Way;
+use maghnelt_demo::job::{Job, Station};
 use maghnelt_demo::lapack;
 use maghnelt_demo::pose::{cross, dot, product, times, turn, Matrix, Pose, Vector, DOF};
 use maghnelt_demo::random::Random;
@@ -109,6 +110,9 @@ struct Wall {
     group: Group,
     states: Vec<State>,
     factor: FrameFactor,
+    /// The points as each frame saw them, and those of the fixed set.
+    seen: Vec<Vec<Vector>>,
+    known: Vec<Vector>,
 }
 
 impl Wall {
@@ -126,16 +130,18 @@ impl Wall {
             };
             (0..count).map(|_| place.to_site(&on_wall())).collect()
         };
-        let own = |(k, state): (usize, &State)| {
-            let seen: Vec<Vector> = points(30 + 7 * k)
-                .iter()
-                .map(|p| seen_from(state, p))
-                .collect();
-            Moments::from_points(&seen).unwrap()
+        let of_frame = |(k, state): (usize, &State)| -> Vec<Vector> {
+            let on_wall = points(30 + 7 * k);
+            on_wall.iter().map(|p| seen_from(state, p)).collect()
         };
-        let own: Vec<Moments> = truths.iter().enumerate().map(own).collect();
-        let known = Moments::from_points(&points(25)).unwrap();
-        let known = with_fixed.then_some(&known);
+        let seen: Vec<Vec<Vector>> = truths.iter().enumerate().map(of_frame).collect();
+        let mut known = points(25);
+        if !with_fixed {
+            known.clear();
+        }
+        let moments = |points: &Vec<Vector>| Moments::from_points(points).unwrap();
+        let own: Vec<Moments> = seen.iter().map(moments).collect();
+        let fixed = with_fixed.then(|| moments(&known));
         let mut off = |state: &State| {
             let step: Vec<f64> = (0..group.dof()).map(|_| random.normal(0.003)).collect();
             group.moved(state, &step)
@@ -143,7 +149,9 @@ impl Wall {
         Wall {
             group,
             states: truths.iter().map(&mut off).collect(),
-            factor: FrameFactor::new(group.dof() as u32, &own, known, SIGMA).unwrap(),
+            factor: FrameFactor::new(group.dof() as u32, &own, fixed.as_ref(), SIGMA).unwrap(),
+            seen,
+            known,
         }
     }
 
@@ -175,6 +183,28 @@ impl Wall {
         (normal, cost.unwrap())
     }
 
+    /// A row for each point.
+    fn point_by_point(&self) -> Linearized {
+        match self.group {
+            Group::So3 => self.bundled::<3>(),
+            Group::Se3 => self.bundled::<6>(),
+            Group::Sim3 => self.bundled::<7>(),
+            Group::Se23 => self.bundled::<9>(),
+        }
+    }
+
+    fn bundled<const N: usize>(&self) -> Linearized {
+        let mut bundle = Bundle::<N>::new();
+        for (state, seen) in self.states.iter().zip(&self.seen) {
+            let columns = |p: &Vector| self.group.derivative(state, p).try_into().unwrap();
+            bundle.add_frame(seen.iter().map(|p| (carried_by(state, p), columns(p))));
+        }
+        bundle.add_fixed(self.known.iter().copied());
+        let fit = bundle.fit().unwrap();
+        let fitted = lapack::decomposition(&fit.scatter).unwrap();
+        bundle.linearize(SIGMA, &fitted).unwrap()
+    }
+
     fn linearized(&self) -> Linearized {
         let actions = self.actions(&self.states);
         let of_set = |set: &Centred| lapack::decomposition(&set.scatter()).unwrap();
@@ -186,6 +216,12 @@ impl Wall {
             .linearize(&actions, &of_fit, &of_frames, of_fixed.as_ref());
         rows.unwrap()
     }
+}
+
+/// Where the state carries the point `p`.
+fn carried_by(state: &State, p: &Vector) -> Vector {
+    let turned = times(&state.a, p);
+    std::array::from_fn(|r| turned[r] + state.b[r])
 }
 
 /// The point that the state carries to `p`.
@@ -252,6 +288,18 @@ fn blocks_are_what_the_rows_sum_to() {
 }
 
 #[test]
+fn rows_of_points_sum_to_the_blocks_of_their_moments() {
+    for wall in walls() {
+        let (normal, cost) = wall.accumulated(&wall.states);
+        // Moments are sums of squared coordinates, as the frames see the points, and the site has the fixed ones.
+        let points = wall.seen.iter().flatten().chain(&wall.known);
+        let squares: f64 = points.map(|p| dot(p, p)).sum();
+        let size = (cost + squares / (SIGMA * SIGMA)).sqrt();
+        agree(&normal, cost, &wall.point_by_point(), size);
+    }
+}
+
+#[test]
 fn the_gradient_is_the_slope_of_the_cost() {
     for wall in walls() {
         let dof = wall.group.dof();
@@ -269,7 +317,7 @@ fn the_gradient_is_the_slope_of_the_cost() {
 #[test]
 fn the_gradient_of_a_job_is_the_slope_of_its_cost() {
     let job = room::job(3, 30);
-    let adjustment = Adjustment::new(&job).unwrap();
+    let adjustment = Adjustment::new(&job, Way::Moments).unwrap();
     let poses: Vec<Pose> = job.stations.iter().map(|s| s.pose).collect();
     let (normal, cost) = adjustment.normal_equations(&job, &poses).unwrap();
     assert_eq!(normal.order(), 30 * DOF);
@@ -343,9 +391,9 @@ fn matches_mean_the_same() {
 }
 
 /// The poses of a job after its adjustment, and its steps.
-fn settled(job: &Job) -> (Vec<Pose>, Vec<Progress>) {
+fn settled(job: &Job, way: Way) -> (Vec<Pose>, Vec<Progress>) {
     let mut steps = Vec::new();
-    let adjustment = Adjustment::new(job).unwrap();
+    let adjustment = Adjustment::new(job, way).unwrap();
     let poses = adjustment.settle(job, |_, now| steps.push(*now)).unwrap();
     (poses, steps)
 }
@@ -354,7 +402,7 @@ fn settled(job: &Job) -> (Vec<Pose>, Vec<Progress>) {
 fn walls_come_down_to_the_noise() {
     for (seed, poses) in [(60, 30), (1, 30), (2, 10), (3, 3), (4, 60)] {
         let job = room::job(seed, poses);
-        let (_, steps) = settled(&job);
+        let (_, steps) = settled(&job, Way::Moments);
         let (first, last) = (steps[0], steps[steps.len() - 1]);
         assert!(
             first.thickness > 2.0 * room::NOISE,
@@ -375,11 +423,8 @@ fn walls_come_down_to_the_noise() {
 
 #[test]
 fn without_known_points_the_first_pose_stays() {
-    let mut job = room::job(5, 12);
-    for surface in &mut job.surfaces {
-        surface.fixed.clear();
-    }
-    let (poses, steps) = settled(&job);
+    let job = unanchored(room::job(5, 12));
+    let (poses, steps) = settled(&job, Way::Moments);
     let last = steps[steps.len() - 1];
     let (metres, radians) = poses[0].distance(&job.stations[0].pose);
     assert!(metres < 1e-12 && radians < 1e-12);
@@ -388,4 +433,106 @@ fn without_known_points_the_first_pose_stays() {
         (last.thickness / room::NOISE - 1.0).abs() < 0.02,
         "{last:?}"
     );
+}
+
+/// The job without what is known in the site.
+fn unanchored(mut job: Job) -> Job {
+    for surface in &mut job.surfaces {
+        surface.fixed.clear();
+    }
+    job
+}
+
+/// How far off the sums over a plane's points may be, as a part of the sizes of what they sum up: a sum of N rounded terms is off by
+/// N·ε of these at the worst, and N is at most the points of the largest plane.
+fn rounding(adjustment: &Adjustment) -> f64 {
+    let points = adjustment.planes.iter().map(|p| p.equations.points());
+    points.fold(0.0, f64::max) * f64::EPSILON
+}
+
+/// The squared distances of points from where they are measured from, in units of sigma.
+fn squares(job: &Job, points: impl Iterator<Item = Vector>) -> f64 {
+    points.map(|p| dot(&p, &p)).sum::<f64>() / (job.sigma * job.sigma)
+}
+
+/// How far a pose goes if a step is off by all that it is made of, the most of all poses. A step is H⁻¹·g; what g sums up for a pose
+/// are products of two coordinates of a point, as the frame sees it or in the site, over sigma squared, and the pose gives way most
+/// in its softest direction.
+fn whole_step(job: &Job, normal: &NormalEquations, poses: &[Pose]) -> f64 {
+    let of_pose = |(k, pose): (usize, &Pose)| {
+        let seen = || job.stations[k].points.iter().map(|(_, p)| *p);
+        let in_site = seen().map(|p| pose.to_site(&p));
+        let column = |c: usize| (0..DOF).map(move |r| normal.hessian(DOF * k + r, DOF * k + c));
+        let block: Vec<f64> = (0..DOF).flat_map(column).collect();
+        let (stiffness, _) = lapack::symmetric_eigen(DOF, block).unwrap();
+        squares(job, seen().chain(in_site)) / stiffness[0]
+    };
+    poses.iter().enumerate().map(of_pose).fold(0.0, f64::max)
+}
+
+#[test]
+fn point_by_point_the_poses_end_where_moments_take_them() {
+    for job in [
+        room::job(60, 30),
+        room::job(3, 3),
+        unanchored(room::job(5, 12)),
+    ] {
+        let (by_moments, steps) = settled(&job, Way::Moments);
+        let (by_points, again) = settled(&job, Way::Points);
+        assert_eq!(again.len(), steps.len());
+
+        let adjustment = Adjustment::new(&job, Way::Points).unwrap();
+        let (normal, _) = adjustment.normal_equations(&job, &by_points).unwrap();
+        // Steps close in, so that none makes larger what those before it were off.
+        let off = rounding(&adjustment) * whole_step(&job, &normal, &by_points);
+        let most = steps.len() as f64 * off;
+        // Metres and radians, far below what the scanner's noise leaves.
+        assert!(most < 1e-3 * room::NOISE, "{most}");
+        for (a, b) in by_moments.iter().zip(&by_points) {
+            let (metres, radians) = a.distance(b);
+            assert!(metres <= most && radians <= most, "{metres} {radians}");
+        }
+    }
+}
+
+/// The job with one of so many points.
+fn thinned(mut job: Job, one_of: usize) -> Job {
+    for surface in &mut job.surfaces {
+        surface.fixed = surface.fixed.iter().copied().step_by(one_of).collect();
+    }
+    for station in &mut job.stations {
+        station.points = station.points.iter().copied().step_by(one_of).collect();
+    }
+    job
+}
+
+#[test]
+fn the_points_of_a_job_add_what_their_moments_add() {
+    for job in [thinned(room::job(60, 30), 7), thinned(room::job(2, 10), 5)] {
+        let [by_moments, by_points] =
+            [Way::Moments, Way::Points].map(|way| Adjustment::new(&job, way).unwrap());
+        let odometry: Vec<Pose> = job.stations.iter().map(|s| s.pose).collect();
+        for poses in [odometry, settled(&job, Way::Points).0] {
+            // Cost, g and H sum up products of two coordinates of a point, as a frame sees it or in the site, over sigma squared.
+            let own = |(s, pose): (&Station, &Pose)| -> Vec<Vector> {
+                let both = |(_, p): &(usize, Vector)| [*p, pose.to_site(p)];
+                s.points.iter().flat_map(both).collect()
+            };
+            let seen = job.stations.iter().zip(&poses).flat_map(own);
+            let known = job.surfaces.iter().flat_map(|s| &s.fixed).copied();
+            let most = rounding(&by_points) * squares(&job, seen.chain(known));
+            // A point costs 1 where it is sigma off: one more or less would be seen.
+            assert!(most < 0.5, "{most}");
+
+            let (normal, cost) = by_moments.normal_equations(&job, &poses).unwrap();
+            let (again, sum) = by_points.normal_equations(&job, &poses).unwrap();
+            let near = |a: &f64, b: &f64| (a - b).abs() <= most;
+            assert!(near(&cost, &sum), "{cost} {sum}");
+            let numbers = normal.gradient().iter().chain(normal.columns());
+            let others = again.gradient().iter().chain(again.columns());
+            for (place, (a, b)) in numbers.zip(others).enumerate() {
+                assert!(near(a, b), "{place}: {a} {b}");
+            }
+        }
+    }
 }
