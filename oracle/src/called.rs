@@ -227,6 +227,20 @@ impl<Case: 'static> Fault<Case> {
     }
 }
 
+/// Goes through each fault alone, a few times, every time in a case of its own.
+pub fn each_alone<Case: 'static>(
+    faults: &[Fault<Case>],
+    accepted: impl Fn(&mut Generator) -> Case,
+    generator: &mut Generator,
+    mut check: impl FnMut(Case),
+) {
+    for fault in faults.iter().flat_map(|fault| [fault; 5]) {
+        let mut case = accepted(generator);
+        fault.make(&mut case, generator);
+        check(case);
+    }
+}
+
 /// Goes through every two faults in both orders, and each twice, every time in a case of its own; `check` gets the case and
 /// the numbers of both.
 pub fn every_pair<Case: 'static>(
@@ -270,6 +284,10 @@ pub fn check_faults<Case: 'static>(
         assert!(both.contains(&number), "{number} of {both:?}");
     });
 }
+
+/// What a wrong function answers that accepts slices of wrong lengths, to which it could not write. For the groups' tests.
+#[cfg(test)]
+pub const ACCEPTED: u32 = u32::MAX;
 
 /// What a call answers on a copy of what it is lent. For the groups' tests.
 #[cfg(test)]

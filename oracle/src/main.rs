@@ -2,9 +2,9 @@
 
 use oracle::generator::Generator;
 use oracle::groups::{
-    frames_accumulate, frames_build, frames_fit, frames_linearize, lists, match_linearize,
-    matches_accumulate, matches_linearize, moments, moments_plane, number, order, plane_new, remap,
-    root_steps, scatter, sigma, sqrt,
+    bundle_fit, bundle_linearize, frames_accumulate, frames_build, frames_fit, frames_linearize,
+    lists, match_linearize, matches_accumulate, matches_linearize, moments, moments_plane, number,
+    order, plane_new, remap, root_steps, scatter, sigma, sqrt,
 };
 use oracle::report::Report;
 use std::collections::BTreeMap;
@@ -89,6 +89,16 @@ const GROUPS: &[Group] = &[
         name: "frames_linearize",
         about: "residuals and derivatives of frames against a model",
         run: frames_linearize::run,
+    },
+    Group {
+        name: "bundle_fit",
+        about: "centroid and scatter of the points of a bundle against a model",
+        run: bundle_fit::run,
+    },
+    Group {
+        name: "bundle_linearize",
+        about: "residuals and derivatives of the points of a bundle against a model",
+        run: bundle_linearize::run,
     },
     Group {
         name: "matches_accumulate",
@@ -212,7 +222,7 @@ fn usage() -> String {
     let mut text = format!(
         "usage: oracle [GROUP ...] [--count N] [--seed N]\n\n\
          Compares the proved library with plain Rust: the groups that are named, or all.\n\n\
-         --count N   about so many cases a group, a frame or match counting as one (default {DEFAULT_COUNT}); the fixed ones always run\n\
+         --count N   about so many cases a group, a frame, match or point of a bundle counting as one (default {DEFAULT_COUNT}); the fixed ones always run\n\
          --seed N    the seed of the random cases (default {DEFAULT_SEED})\n\n\
          Exit status: 0 no mismatch, 1 a mismatch, 2 bad usage.\n\ngroups:"
     );

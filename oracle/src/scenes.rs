@@ -278,19 +278,27 @@ pub fn decomposition_of(m: Matrix<3>) -> [f64; DECOMPOSITION] {
     decomposition
 }
 
-/// A decomposition of the fit's scatter as a host makes it, or one that is made up, or the first with other eigenvalues.
-pub fn fit_decomposition(scene: &Scene, generator: &mut Generator) -> [f64; DECOMPOSITION] {
+/// A decomposition of a scatter as a host makes it, or one that is made up, or the first with other eigenvalues, about the
+/// least gap apart, which is given for the third.
+pub fn decomposition_about(
+    scatter: impl FnOnce() -> Matrix<3>,
+    least_gap: fn(f64) -> f64,
+    generator: &mut Generator,
+) -> [f64; DECOMPOSITION] {
     let mut decomposition = match generator.below(8) {
         0 => numbers(generator),
-        _ => {
-            let sets = Sets::read(&scene.frames, &scene.fixed, &scene.actions);
-            decomposition_of(fit(&sets).1)
-        }
+        _ => decomposition_of(scatter()),
     };
     if generator.below(3) == 0 {
-        decomposition[..3].copy_from_slice(&made_up_eigenvalues(generator));
+        decomposition[..3].copy_from_slice(&made_up_eigenvalues(least_gap, generator));
     }
     decomposition
+}
+
+/// Such a decomposition of the fit's scatter.
+pub fn fit_decomposition(scene: &Scene, generator: &mut Generator) -> [f64; DECOMPOSITION] {
+    let scatter = || fit(&Sets::read(&scene.frames, &scene.fixed, &scene.actions)).1;
+    decomposition_about(scatter, |third| 1e-14 * third.abs().max(1.0), generator)
 }
 
 /// A decomposition of a set's scatter, or one that is made up.
@@ -308,7 +316,7 @@ pub fn set_decomposition(record: &[f64], generator: &mut Generator) -> [f64; DEC
 }
 
 /// Eigenvalues in any order: about the least gap apart beside any third one, equal, or special.
-fn made_up_eigenvalues(generator: &mut Generator) -> [f64; 3] {
+fn made_up_eigenvalues(least_gap: fn(f64) -> f64, generator: &mut Generator) -> [f64; 3] {
     let special = patterns::special();
     let any = |generator: &mut Generator| f64::from_bits(generator.pick(&special));
     let third = match generator.below(4) {
@@ -322,12 +330,11 @@ fn made_up_eigenvalues(generator: &mut Generator) -> [f64; 3] {
         1 => any(generator),
         _ => third - within(0.0, 4.0, generator),
     };
-    let gap = 1e-14 * third.abs().max(1.0);
     let second = match generator.below(4) {
         0 => least,
         1 => any(generator),
         _ => f64::from_bits(
-            (least + gap)
+            (least + least_gap(third))
                 .to_bits()
                 .wrapping_add_signed(generator.between(-2, 2)),
         ),
@@ -345,6 +352,13 @@ pub const GAPS_OF_THE_FIT: [u64; 3] = [
     0x3D06_849B_86A1_2B9B,
     0x3D06_849B_86A1_2B9C,
     0x3D81_9799_812D_EA11,
+];
+
+/// The patterns about the least gap of a bundle: just below 1e-12, 1e-12, which is not below it, and the number after it.
+pub const GAPS_OF_A_BUNDLE: [u64; 3] = [
+    0x3D71_9799_812D_EA10,
+    0x3D71_9799_812D_EA11,
+    0x3D71_9799_812D_EA12,
 ];
 
 /// Every three of the patterns at which an order turns, or a gap by a rule whose patterns are given.

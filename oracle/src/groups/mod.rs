@@ -3,6 +3,8 @@
 //! A group's `run` compares the library. Its `compare` takes the functions to compare, so that the group's tests can
 //! show which wrong functions it finds.
 
+pub mod bundle_fit;
+pub mod bundle_linearize;
 pub mod frames_accumulate;
 pub mod frames_build;
 pub mod frames_fit;

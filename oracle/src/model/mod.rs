@@ -1,9 +1,10 @@
-//! A model of the library in plain Rust, written from document 01 rule by rule: it is there to be read beside the paper,
+//! A model of the library in plain Rust, written from documents 01 and 02 rule by rule: it is there to be read beside them,
 //! not to be fast, and is not the solver's own Rust.
 //!
 //! A matrix is read as `m[row][column]`; where it is stored, its columns follow each other.
 
 pub mod blocks;
+pub mod bundle;
 pub mod frames;
 pub mod matches;
 pub mod moments;
