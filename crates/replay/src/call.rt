@@ -229,8 +229,38 @@ fn linearize_match(sample: &Sample, at: usize, x: &Numbers) -> bool {
         & left(sample, at, 5, &row)
 }
 
+fn fit_bundle(sample: &Sample, at: usize, x: &Numbers) -> bool {
+    let mut room = [0; 1100];
+    let counts = sample::words(sample, case::words(sample, at, 0), &mut room);
+    let mut out = [0.0; 8192];
+    let answer = maghnelt::maghnelt_bundle_fit(
+        counts,
+        numbers(sample, at, x, 0),
+        numbers(sample, at, x, 1),
+        written(sample, at, 2, &mut out),
+    );
+    wrote(sample, at, answer, x, 2, &out) & left_words(sample, at, 0, counts)
+}
+
+fn linearize_bundle(sample: &Sample, at: usize, x: &Numbers, p: &[u64], counts: &[u32]) -> bool {
+    let mut residual = [0.0; 8192];
+    let mut jacobian = [0.0; 8192];
+    let answer = maghnelt::maghnelt_bundle_linearize(
+        word(sample, at, 0),
+        counts,
+        numbers(sample, at, x, 0),
+        numbers(sample, at, x, 1),
+        numbers(sample, at, x, 2),
+        number(x, 3),
+        p,
+        written(sample, at, 4, &mut residual),
+        written(sample, at, 5, &mut jacobian),
+    );
+    wrote(sample, at, answer, x, 4, &residual) & left(sample, at, 5, &jacobian)
+}
+
 // Whether a case's call answers and leaves what it should, but for the words that no call of its kind writes.
-pub fn agrees(sample: &Sample, at: usize, x: &Numbers, p: &[u64], map: &[u32]) -> bool {
+pub fn agrees(sample: &Sample, at: usize, x: &Numbers, p: &[u64], words: &[u32]) -> bool {
     match case::call(sample, at) {
         0 => from_points(sample, at, x),
         1 => push(sample, at, x),
@@ -240,14 +270,16 @@ pub fn agrees(sample: &Sample, at: usize, x: &Numbers, p: &[u64], map: &[u32]) -
         5 => plane(sample, at, x, p),
         6 => plane_new(sample, at, x),
         7 => sigma(sample, at, x),
-        8 => remap(sample, at, map),
+        8 => remap(sample, at, words),
         9 => fit(sample, at, x),
         10 => build(sample, at, x),
-        11 => accumulate(sample, at, x, p, map),
+        11 => accumulate(sample, at, x, p, words),
         12 => linearize(sample, at, x, p),
-        13 => accumulate_matches(sample, at, x, map),
+        13 => accumulate_matches(sample, at, x, words),
         14 => linearize_matches(sample, at, x),
         15 => linearize_match(sample, at, x),
+        16 => fit_bundle(sample, at, x),
+        17 => linearize_bundle(sample, at, x, p, words),
         _ => false,
     }
 }

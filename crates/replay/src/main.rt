@@ -36,7 +36,7 @@ fn with_patterns(sample: &Sample, at: usize, numbers: &Numbers, patterns: &[u64]
 // Whether the words that a call does not write are left as they were: its first where that is the freedom, and the second list.
 fn kept_words(sample: &Sample, at: usize, second: &[u32]) -> bool {
     let call = case::call(sample, at);
-    (call < 9 || lists::left_word(sample, at, 0, lists::word(sample, at, 0)))
+    (call < 9 || call == 16 || lists::left_word(sample, at, 0, lists::word(sample, at, 0)))
         && (call == 10 || lists::left_words(sample, at, 1, second))
 }
 

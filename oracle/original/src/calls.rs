@@ -187,4 +187,9 @@ calls! {
     MATCH_LINEARIZE "match_linearize" maghnelt_match_linearize(
         dof: word, a_match: numbers, world: numbers, d_state: numbers, d_extrinsic: numbers, residual: out_number,
         row: out_numbers)
+    BUNDLE_FIT "bundle_fit" maghnelt_bundle_fit(
+        counts: words, points: numbers, fixed: numbers, out: out_numbers)
+    BUNDLE_LINEARIZE "bundle_linearize" maghnelt_bundle_linearize(
+        dof: word, counts: words, points: numbers, d_state: numbers, fixed: numbers, sigma: number,
+        decomposition: numbers, residual: out_numbers, jacobian: out_numbers)
 }

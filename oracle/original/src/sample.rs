@@ -29,8 +29,10 @@ fn taken_of(case: &Case) -> [usize; 3] {
     match (case.call.name, case.call.parameters[0]) {
         _ if is_long(case) => [1, 1, 0],
         _ if is_wide(case) => [10, 10, 0],
+        // So many pairs can be spoilt that one of each would take a third of its room.
+        ("bundle_linearize", _) if is_refused_twice(case) => [0, 4, 24],
         _ if case.kind.starts_with("refused by") => [1, 4, 24],
-        ("remap", _) => [2, 2, 0],
+        ("remap" | "bundle_fit", _) => [2, 2, 0],
         ("match_linearize" | "frames_build" | "point_to_plane_sigma", _) => [4, 4, 0],
         (_, "dof") => [1, 3, 20],
         _ => [8, 8, 0],
@@ -161,7 +163,7 @@ fn is_fit(case: &Case) -> bool {
     };
     let room = |place: usize| match case.call.parameters[place] {
         _ if is_pattern(case, place) => PATTERNS,
-        "hessian" | "jacobian" => 100,
+        "hessian" | "jacobian" | "d_state" => 100,
         "matches" if std::ptr::eq(case.call, &MATCHES_ACCUMULATE) => LONGEST,
         _ => LONG,
     };
@@ -185,6 +187,11 @@ fn is_wide(case: &Case) -> bool {
     let names = case.call.parameters.iter().zip(&case.before);
     let mut matrices = names.filter(|(name, _)| matches!(**name, "hessian" | "jacobian"));
     matrices.any(|(_, value)| value.len() > 25)
+}
+
+/// Whether two things are spoilt.
+fn is_refused_twice(case: &Case) -> bool {
+    case.kind.starts_with("refused by") && case.kind.contains(" and ")
 }
 
 /// Draws jobs, takes some calls of every kind, and hands back the sample's bytes with the number of its cases.

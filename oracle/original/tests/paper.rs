@@ -1,15 +1,19 @@
-//! The original over the stand-ins gives what document 01 and the formulas worked out on paper say, and the comparison
-//! sees an answer that is wrong.
+//! The original over the stand-ins gives what documents 01 and 02 and the formulas worked out on paper say, and the
+//! comparison sees an answer that is wrong.
 
 use apex_manifolds::capability::ActsOnPoints3;
+use apex_manifolds::se3::SE3;
 use apex_manifolds::{Affine, LieGroup};
 use faer::mat::MatMut;
+use maghnelt::slices::bundle_fit;
+use maghnelt::Refusal;
 use nalgebra::{eigen, DMatrix, DVector, Matrix3, Vector3};
 use oracle::generator::Generator;
 use original::case::{After, Case, Cell};
 use original::factors::lidar::map_plane::point_to_plane_sigma;
 use original::factors::lidar::map_planes::{LidarMapPlanesFactor, PlaneMatch};
 use original::factors::lidar::plane::Plane;
+use original::factors::lidar::plane_bundle::{fit_plane_pca, LidarPlaneBundleFactor};
 use original::factors::lidar::plane_moments::{beside, PointMoments};
 use original::factors::{Factor, NormalBlocks};
 use original::jobs::JOBS;
@@ -31,14 +35,18 @@ fn along_axes(values: [f64; 3]) -> eigen::Decomposition {
     [a, b, c, 1.0, 0.0, 0.0, 0.0, 1.0, 0.0, 0.0, 0.0, 1.0]
 }
 
-fn corners() -> PointMoments {
+fn corner_points() -> [Vector3<f64>; 4] {
     let corner = |x, y| Vector3::new(x, y, 0.0);
-    PointMoments::from_points(&[
+    [
         corner(0.0, 0.0),
         corner(2.0, 0.0),
         corner(0.0, 2.0),
         corner(2.0, 2.0),
-    ])
+    ]
+}
+
+fn corners() -> PointMoments {
+    PointMoments::from_points(&corner_points())
 }
 
 #[test]
@@ -114,6 +122,78 @@ fn the_factor_in_whole_numbers() {
     );
     assert_eq!(residual, [4.0, 0.0, 0.0, 0.0, 0.0, 0.0, 0.0, 0.0]);
     assert_eq!(jacobian, [4.0, 0.0, 0.0, 16.0, 0.0, 0.0, 0.0, 0.0]);
+}
+
+/// The corners and a fixed point five metres above their middle.
+fn lifted_corners() -> Vec<Vector3<f64>> {
+    [&corner_points()[..], &[Vector3::new(1.0, 1.0, 5.0)]].concat()
+}
+
+#[test]
+fn centroid_and_scatter_of_a_bundle() {
+    eigen::hand_in([along_axes([0.0, 1.0, 2.0])]);
+    let (normal, centroid) = fit_plane_pca(&lifted_corners()).unwrap();
+    assert_eq!(normal, Vector3::x());
+    assert_eq!(centroid, Vector3::new(1.0, 1.0, 1.0));
+    assert_eq!(
+        eigen::taken()[0].matrix,
+        [0.8, 0.0, 0.0, 0.0, 0.8, 0.0, 0.0, 0.0, 4.0]
+    );
+}
+
+#[test]
+fn the_gap_rule_of_a_bundle() {
+    let normal = |values: [f64; 3]| {
+        eigen::hand_in([along_axes(values)]);
+        fit_plane_pca(&lifted_corners()).map(|(normal, _)| normal)
+    };
+    assert_eq!(normal([0.0, 1e-12, 1.0]), Some(Vector3::x()));
+    assert_eq!(normal([0.0, 9e-13, 1.0]), None);
+    assert_eq!(normal([0.0, f64::NAN.abs(), 1.0]), Some(Vector3::x()));
+    // The gap is a NaN, which is not less than the bound.
+    assert_eq!(normal([0.0, -f64::NAN.abs(), 1.0]), Some(Vector3::y()));
+}
+
+/// The factor of a bundle whose scanner's frame is the body's, with a sigma of a half.
+fn bundle(points: &[&[Vector3<f64>]], fixed: &[Vector3<f64>]) -> LidarPlaneBundleFactor<Affine<1>> {
+    let unmoved = SE3::from_param_slice(&[0.0, 0.0, 0.0, 1.0, 0.0, 0.0, 0.0]);
+    let points = points.iter().map(|points| points.to_vec()).collect();
+    LidarPlaneBundleFactor::new(unmoved, points, fixed.to_vec(), 0.5).unwrap()
+}
+
+#[test]
+fn the_bundle_in_whole_numbers() {
+    let points = lifted_corners();
+    let factor = bundle(&[&points[..2], &points[2..4]], &points[4..]);
+    let params = state();
+    let (mut residual, mut jacobian) = ([7.0; 5], [7.0; 10]);
+    let mut linearize = |values: [f64; 3]| {
+        eigen::hand_in([along_axes(values)]);
+        let view = MatMut::of(5, 2, &mut jacobian);
+        factor.linearize(&[&params, &params], &mut residual, Some(view));
+        (residual, jacobian)
+    };
+    // Along x the points are 1 off the centroid, and their columns are 3 and 5.
+    let (residual, jacobian) = linearize([0.0, 1.0, 2.0]);
+    assert_eq!(residual, [-2.0, 2.0, -2.0, 2.0, 0.0]);
+    assert_eq!(jacobian[..5], [6.0, 10.0, 0.0, 0.0, 0.0]);
+    assert_eq!(jacobian[5..], [0.0, 0.0, 6.0, 10.0, 0.0]);
+    assert_eq!(linearize([1.0, 1.0, 1.0]), ([0.0; 5], [0.0; 10]));
+}
+
+#[test]
+fn a_bundle_is_tested_before_its_points_are_in_the_site() {
+    let far = [Vector3::new(1.5e308, 0.0, 0.0); 3];
+    let mut doubling = state();
+    doubling[0] = 2.0;
+    let factor = bundle(&[&far], &[]);
+    let mut residual = [7.0; 3];
+    eigen::hand_in([along_axes([0.0, 1.0, 2.0])]);
+    factor.linearize(&[&doubling], &mut residual, None);
+    assert!(residual.iter().all(|number| number.is_nan()));
+    let site = [f64::INFINITY, 0.0, 0.0].repeat(3);
+    let refused = bundle_fit(&[3], &site, &[], &mut [0.0; 12]);
+    assert_eq!(refused, Err(Refusal::NotFinite));
 }
 
 /// Accumulates one frame at an offset into a Hessian of order n, by a fit with these eigenvalues.

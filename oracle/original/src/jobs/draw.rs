@@ -114,6 +114,15 @@ pub fn piece(generator: &mut Generator) -> Wall {
     wall
 }
 
+/// A site point as it was seen under an action: carried back by the map's inverse, where that is a turn with a scale.
+pub fn carried_back(world: [f64; 3], action: &[f64]) -> [f64; 3] {
+    let square: f64 = action[..3].iter().map(|entry| entry * entry).sum();
+    std::array::from_fn(|row| {
+        let along = |r: usize| action[3 * row + r] * (world[r] - action[9 + r]);
+        (along(0) + along(1) + along(2)) / square
+    })
+}
+
 /// A decomposition that no routine made: eigenvalues at which an answer changes, any axes or any numbers.
 pub fn decomposition(generator: &mut Generator) -> [f64; 12] {
     const VALUES: [f64; 16] = [

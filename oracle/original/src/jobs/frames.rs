@@ -70,21 +70,10 @@ struct Built<G: Tried> {
     label: String,
 }
 
-/// The moments of a piece of wall as a state sees it: its points carried back by the map's inverse, where that is a turn
-/// with a scale.
+/// The moments of a piece of wall as a state sees it.
 fn seen(piece: &Wall, action: &[f64], generator: &mut Generator) -> Vec<f64> {
-    let square: f64 = action[..3].iter().map(|entry| entry * entry).sum();
     let points: Vec<_> = (0..1 + generator.below(8))
-        .map(|_| {
-            let world = piece.point(generator);
-            let back: Vec<f64> = (0..3)
-                .map(|row| {
-                    let along = |r: usize| action[3 * row + r] * (world[r] - action[9 + r]);
-                    (along(0) + along(1) + along(2)) / square
-                })
-                .collect();
-            vector(&back)
-        })
+        .map(|_| vector(&draw::carried_back(piece.point(generator), action)))
         .collect();
     numbers(&PointMoments::from_points(&points))
 }

@@ -1,6 +1,7 @@
 //! What both are tried on. A job is drawn from a seed of its own, has the original answer some calls, and hands back each
 //! with its answer.
 
+mod bundles;
 mod draw;
 mod frames;
 mod maps;
@@ -49,5 +50,9 @@ pub static JOBS: &[Job] = &[
     Job {
         name: "one_match",
         run: one_match::run,
+    },
+    Job {
+        name: "bundles",
+        run: bundles::run,
     },
 ];

@@ -1,5 +1,5 @@
 //! Calls that are refused by rules that the Rust does not have, or has elsewhere: an accepted call with one or two things
-//! spoilt. Here document 01 says the number and not the original; of two reasons the lower-placed one is answered.
+//! spoilt. Here documents 01 and 02 say the number and not the original; of two reasons the lower-placed one is answered.
 
 use super::draw;
 use super::tried::Tried;
@@ -103,7 +103,7 @@ fn all(case: &Case, generator: &mut Generator) -> Vec<Spoilt> {
             }
             // Empty means not wanted, or no map.
             ("jacobian" | "row", _) if value.is_empty() => {}
-            ("map", _) => {}
+            ("map" | "counts", _) => {}
             (name, _) => {
                 spoil(longer(value), 3);
                 if matches!(name, "frames" | "matches" | "a_match") {
@@ -113,6 +113,7 @@ fn all(case: &Case, generator: &mut Generator) -> Vec<Spoilt> {
         }
     }
     spoils.extend(words(case, generator));
+    spoils.extend(counts(case, generator));
     spoils
 }
 
@@ -153,6 +154,37 @@ fn words(case: &Case, generator: &mut Generator) -> Vec<Spoilt> {
         }
     }
     spoils
+}
+
+/// What can be spoilt of a bundle's counts.
+fn counts(case: &Case, generator: &mut Generator) -> Vec<Spoilt> {
+    let mut parameters = case.call.parameters.iter().zip(&case.before).enumerate();
+    let found = parameters.find(|(_, (name, _))| **name == "counts");
+    let Some((place, (_, Value::Words(counts)))) = found else {
+        return Vec::new();
+    };
+    let at = generator.below(counts.len() as u64) as usize;
+    let next = (at + 1) % counts.len();
+    let mut more = counts.clone();
+    more[at] += 1;
+    let mut spoils = vec![(Vec::new(), 2), (more, 3)];
+    if next != at {
+        // The sum is the same in 32 bits, but not in 64.
+        let mut around = counts.clone();
+        around[at] += 1 << 31;
+        around[next] += 1 << 31;
+        // All points of a frame are another's.
+        let mut without = counts.clone();
+        without[next] += without[at];
+        without[at] = 0;
+        spoils.extend([(around, 3), (without, 4)]);
+    }
+    let spoilt = |(counts, reason)| Spoilt {
+        place,
+        value: Value::Words(counts),
+        reason,
+    };
+    spoils.into_iter().map(spoilt).collect()
 }
 
 /// A variable that a factor is registered with.
