@@ -1,4 +1,4 @@
-//! Times two ways to do the same and prints a row of the table.
+//! Times two ways to do the same.
 //!
 //! The two take turns in short batches, so that whatever else slows the machine slows both alike, and the ratio is the
 //! median of the rounds' own ratios.
@@ -23,60 +23,89 @@ pub fn print_head() {
     println!("|---|---|---:|---:|---:|");
 }
 
-/// Times `library` against `rust`, each of which makes `calls` calls, and prints the row: the medians of the times of
-/// one call, and the median of the rounds' ratios, library to Rust.
-pub fn measure(
-    function: &str,
-    case: &str,
-    calls: usize,
-    mut library: impl FnMut(),
-    mut rust: impl FnMut(),
-) {
-    let turns = turns_of_a_batch(&mut library).max(turns_of_a_batch(&mut rust));
-    let batch = time(turns, &mut library).max(time(turns, &mut rust));
+/// What two ways to do the same take.
+pub struct Times {
+    /// The medians of the times of one call.
+    pub nanoseconds: [f64; 2],
+    /// The median of the rounds' ratios, first to second.
+    pub ratio: f64,
+}
+
+/// Times two ways, each of which makes `calls` calls.
+pub fn compare(calls: usize, mut first: impl FnMut(), mut second: impl FnMut()) -> Times {
+    let turns = turns_of_a_batch(&mut first).max(turns_of_a_batch(&mut second));
+    let batch = time(turns, &mut first).max(time(turns, &mut second));
     // An odd number, so that there is a middle one.
     let number = ((WHOLE.as_secs_f64() / batch) as usize).clamp(FEWEST_ROUNDS, ROUNDS) | 1;
     let warm_up = WARM_UP_ROUNDS.min(number / 4);
     let mut rounds = Vec::with_capacity(number);
     for round in 0..warm_up + number {
         // Whoever goes second may find a warmer machine, so that they take turns at that too.
-        let (of_library, of_rust);
+        let (of_first, of_second);
         if round % 2 == 0 {
-            of_library = time(turns, &mut library);
-            of_rust = time(turns, &mut rust);
+            of_first = time(turns, &mut first);
+            of_second = time(turns, &mut second);
         } else {
-            of_rust = time(turns, &mut rust);
-            of_library = time(turns, &mut library);
+            of_second = time(turns, &mut second);
+            of_first = time(turns, &mut first);
         }
         if round >= warm_up {
-            rounds.push((of_library, of_rust));
+            rounds.push((of_first, of_second));
         }
     }
     let nanoseconds = |batch: f64| batch * 1e9 / (turns * calls) as f64;
-    println!(
-        "| {function} | {case} | {:.2} | {:.2} | {:.2} |",
-        nanoseconds(median(rounds.iter().map(|round| round.0))),
-        nanoseconds(median(rounds.iter().map(|round| round.1))),
-        median(rounds.iter().map(|round| round.0 / round.1)),
-    );
+    Times {
+        nanoseconds: [
+            nanoseconds(median(rounds.iter().map(|round| round.0))),
+            nanoseconds(median(rounds.iter().map(|round| round.1))),
+        ],
+        ratio: median(rounds.iter().map(|round| round.0 / round.1)),
+    }
 }
 
 /// The same of two that write to memory lent to them: both are lent the same, so that where its pages lie does not show.
+pub fn compare_on<Memory>(
+    calls: usize,
+    memory: &mut Memory,
+    mut first: impl FnMut(&mut Memory),
+    mut second: impl FnMut(&mut Memory),
+) -> Times {
+    let memory = RefCell::new(memory);
+    compare(
+        calls,
+        || first(&mut memory.borrow_mut()),
+        || second(&mut memory.borrow_mut()),
+    )
+}
+
+/// Times `library` against `rust` and prints the row.
+pub fn measure(
+    function: &str,
+    case: &str,
+    calls: usize,
+    library: impl FnMut(),
+    rust: impl FnMut(),
+) {
+    print_row(function, case, compare(calls, library, rust));
+}
+
+/// The same of two that write to memory lent to them.
 pub fn measure_on<Memory>(
     function: &str,
     case: &str,
     calls: usize,
     memory: &mut Memory,
-    mut library: impl FnMut(&mut Memory),
-    mut rust: impl FnMut(&mut Memory),
+    library: impl FnMut(&mut Memory),
+    rust: impl FnMut(&mut Memory),
 ) {
-    let memory = RefCell::new(memory);
-    measure(
-        function,
-        case,
-        calls,
-        || library(&mut memory.borrow_mut()),
-        || rust(&mut memory.borrow_mut()),
+    print_row(function, case, compare_on(calls, memory, library, rust));
+}
+
+fn print_row(function: &str, case: &str, times: Times) {
+    let [library, rust] = times.nanoseconds;
+    println!(
+        "| {function} | {case} | {library:.2} | {rust:.2} | {:.2} |",
+        times.ratio
     );
 }
 
