@@ -1,24 +1,25 @@
 -- The Jacobian as one block a frame: where a frame's rows begin, and the block that it has. Assumes nothing.
 use Prim.Native.Nat.{ℕ, zero, suc, _+_, _-_, _*_, _<_, _≤_}
-use mathlib.Core.Path.{_≡_, sym, ap, _∙_}
-use mathlib.Core.Bool.{true}
+use mathlib.Core.Path.{_≡_, sym, ap, ap₂, _∙_}
+use mathlib.Core.Bool.{_&&_}
 use mathlib.Core.List.{List, [], _∷_, _++_, append-assoc, append-nil}
 use native.Mathlib.Nat.{add-assoc, add-suc, add-zero, zero-add, zero-mul, suc-mul}
 use native.Mathlib.Numerals.{add-one}
 use native.Mathlib.Omega.{arith}
+use lib.Dec.{ltb, leb}
 use lib.ListN.{length, getD, take, drop, take-append-drop, replicate, getD-replicate}
 use lib.Seq.{take-suc, drop-drop, getD-append-add, getD-take, getD-drop}
 use lib.Ieee.{Float, nan}
 use borrow.Rule.Slice.PartMut.{putMid}
-use borrow.Author.Tests.{lt-ltb, le-leb}
 use Rattle.sums.specs.Sum.{zeroF, tab, grid}
 use Rattle.sums.specs.Laws.{length-grid, grid-column, at-grid, off-add, tab-getD, cell}
 use Rattle.sums.specs.Fill.{written, Columns, column-ends}
 use Rattle.lists.specs.Part.{_!_}
-use Rattle.terms.specs.Terms.{cellOf}
+use Rattle.terms.specs.Terms.{cellOf, within}
+use Rattle.terms.specs.Cells.{in-within}
 use Rattle.terms.specs.Places.{row-is, column-is, grid-of-cells}
 use Rattle.bundle_rows.specs.Rows.{total, start, inFrame, frameCell, jacobianCell}
-use Rattle.bundle_rows.specs.Steps.{stateCell, among, Put}
+use Rattle.bundle_rows.specs.Steps.{stateCell, Put}
 
 -- ---- the counts' sums
 pub total-append : (a b : List ℕ) → total (a ++ b) ≡ total a + total b
@@ -60,16 +61,17 @@ module _ (counts : List ℕ) (dof : ℕ) (state n : List Float) (info : Float) (
   unfolding jacobianCell
   as-frame f c k h = rw (column-is dof c f h, row-is dof c f h)
 
-  whole-width : (c : ℕ) → c < dof → among 0 dof c ≡ true
-  unfolding among
-  whole-width c h = rw (le-leb 0 c (omega arith), lt-ltb c (0 + dof) (omega arith))
+  -- the rows of frame f are those from its start on
+  own-rows : (f from count k : ℕ) → from ≡ start counts f → start counts (f + 1) ≡ from + count → within from count k ≡ inFrame counts f k
+  unfolding inFrame
+  own-rows f from count k e next = ap₂ (λ (a b : ℕ). leb a k && ltb k b) e (sym next)
 
   -- what a block of zeros becomes once the rows of frame f's points are put
   pub block-put : (f from count : ℕ) (j j′ : List Float) → from ≡ start counts f → start counts (f + 1) ≡ from + count → length j ≡ dof * rows → ((p : ℕ) → p < dof * rows → j ! p ≡ zeroF)
       → Put rows dof from count 0 dof (stateCell dof state n info) j j′ → j′ ≡ blockOf f
-  unfolding frameCell inFrame stateCell among
+  unfolding frameCell stateCell
   block-put f from count j j′ e next size zeros p =
-      grid-of-cells rows dof _ j′ (p .size ∙ size) (λ k c a b. p .cells k c a b ∙ rw (whole-width c b, zeros (cellOf rows k c) (cell rows dof k c a b), ← e, next))
+      grid-of-cells rows dof _ j′ (p .size ∙ size) (λ k c a b. p .cells k c a b ∙ rw (in-within 0 dof c (omega arith) (omega arith), zeros (cellOf rows k c) (cell rows dof k c a b), own-rows f from count k e next))
 
   -- and the block written to its part of the Jacobian
   pub block-written : (out : List Float) (f at size : ℕ) (new : List Float) → size ≡ dof * rows → new ≡ blockOf f → putMid at size out new ≡ written out at (dof * rows) (λ i. blockNumber i f)

@@ -1,64 +1,39 @@
 -- How a block fills up: one cell, two rectangles of cells side by side, and one above the other. Assumes nothing.
 use Prim.Native.Nat.{ℕ, _+_, _-_, _*_, _<_, _≤_}
 use mathlib.Core.Path.{_≡_, refl, _∙_}
-use mathlib.Core.Bool.{Bool, true, false, _&&_, _||_, cond, and-false}
+use mathlib.Core.Bool.{Bool, true, false, _&&_, _||_, cond, and-false, or-false}
 use mathlib.Core.List.{List}
-use native.Mathlib.Nat.{add-assoc, zero-add}
+use native.Mathlib.Nat.{zero-add}
 use native.Mathlib.Omega.{arith}
 use lib.Dec.{ltb, eqb}
 use lib.ListN.{length, set, length-set}
 use lib.Seq.{getD-set-same, getD-set-other}
 use lib.Ieee.{Float, nan}
-use borrow.Author.Tests.{ltb-true, ltb-false, lt-ltb, le-ltb, le-leb, lt-leb, eqb-true, eqb-false}
+use borrow.Author.Tests.{ltb-true, ltb-false, eqb-true, eqb-false}
 use Rattle.sums.specs.Laws.{cell}
 use Rattle.lists.specs.Part.{_!_}
-use Rattle.terms.specs.Terms.{cellOf}
+use Rattle.terms.specs.Terms.{cellOf, within}
+use Rattle.terms.specs.Cells.{in-within, not-within, same-within}
 use Rattle.terms.specs.Places.{same-row, same-column}
-use Rattle.bundle_rows.specs.Steps.{among, Put}
+use Rattle.bundle_rows.specs.Steps.{Put}
 
--- ---- a run of numbers
-not-before : (from count k : ℕ) → k < from → among from count k ≡ false
-unfolding among
-not-before from count k h = rw (lt-leb from k h)
+-- ---- a run of rows or columns: none, one, and two runs one after the other
+within-none : (from k : ℕ) → within from 0 k ≡ false
+within-none from k = not-within from 0 k (λ p. omega (arith, p .0, p .1))
 
-is-within : (from count k : ℕ) → from ≤ k → k < from + count → among from count k ≡ true
-unfolding among
-is-within from count k h l = rw (le-leb from k h, lt-ltb k (from + count) l)
+not-one : (from k : ℕ) → (k ≡ from → ⊥) → within from 1 k ≡ false
+not-one from k n = not-within from 1 k (λ p. n (omega (arith, p .0, p .1)))
 
-not-after : (from count k : ℕ) → from + count ≤ k → among from count k ≡ false
-unfolding among
-not-after from count k h = rw (le-ltb k (from + count) h, and-false)
-
--- none, one, and two runs one after the other
-among-none : (from k : ℕ) → among from 0 k ≡ false
-among-none from k = go (ltb k from) refl
+within-split : (from a b k : ℕ) → (within from a k || within (from + a) b k) ≡ within from (a + b) k
+within-split from a b k = go (ltb k (from + a)) refl
   where
-    go : (b : Bool) → ltb k from ≡ b → among from 0 k ≡ false
-    go true e = not-before from 0 k (ltb-true k from e)
-    go false e = let l : from ≤ k = ltb-false k from e in not-after from 0 k (omega arith)
-
-not-one : (from k : ℕ) → (k ≡ from → ⊥) → among from 1 k ≡ false
-not-one from k n = go (ltb k from) refl
-  where
-    go : (b : Bool) → ltb k from ≡ b → among from 1 k ≡ false
-    go true e = not-before from 1 k (ltb-true k from e)
-    go false e = let l : from ≤ k = ltb-false k from e in not-after from 1 k (omega arith)
-
-among-split : (from a b k : ℕ) → (among from a k || among (from + a) b k) ≡ among from (a + b) k
-among-split from a b k = go (ltb k from) (ltb k (from + a)) refl refl
-  where
-    go : (s t : Bool) → ltb k from ≡ s → ltb k (from + a) ≡ t → (among from a k || among (from + a) b k) ≡ among from (a + b) k
-    go true t e f =
-        let l : k < from = ltb-true k from e in
-        rw (not-before from a k l, not-before (from + a) b k (omega arith), not-before from (a + b) k l)
-    go false true e f =
-        let l : from ≤ k = ltb-false k from e in
-        let m : k < from + a = ltb-true k (from + a) f in
-        rw (is-within from a k l m, is-within from (a + b) k l (omega arith))
-    go false false e f = unfold among in
-        let m : from + a ≤ k = ltb-false k (from + a) f in
-        let l : from ≤ k = omega arith in
-        rw (le-leb from k l, le-ltb k (from + a) m, le-leb (from + a) k m, add-assoc from a b)
+    go : (t : Bool) → ltb k (from + a) ≡ t → (within from a k || within (from + a) b k) ≡ within from (a + b) k
+    go true e =
+        let l : k < from + a = ltb-true k (from + a) e in
+        rw (not-within (from + a) b k (λ p. omega (arith, p .0)), or-false) (same-within from a k from (a + b) k (λ p. (p .0, omega arith)) (λ p. (p .0, l)))
+    go false e =
+        let l : from + a ≤ k = ltb-false k (from + a) e in
+        rw (not-within from a k (λ p. omega (arith, p .1))) (same-within (from + a) b k from (a + b) k (λ p. (omega arith, omega (arith, p .1))) (λ p. (l, omega (arith, p .1))))
 
 -- ---- rectangles
 module _ (rows cols : ℕ) (f : ℕ → ℕ → Float) where
@@ -72,15 +47,15 @@ module _ (rows cols : ℕ) (f : ℕ → ℕ → Float) where
       elsewhere : (i d : ℕ) → (cellOf rows i d ≡ cellOf rows k c → ⊥) → set j (cellOf rows k c) v ! cellOf rows i d ≡ j ! cellOf rows i d
       elsewhere i d n = getD-set-other j (cellOf rows k c) (cellOf rows i d) v nan n
 
-      column : (i d : ℕ) → i < rows → (d ≡ c → ⊥) → set j (cellOf rows k c) v ! cellOf rows i d ≡ cond (among c 1 d && among k 1 i) (f i d) (j ! cellOf rows i d)
+      column : (i d : ℕ) → i < rows → (d ≡ c → ⊥) → set j (cellOf rows k c) v ! cellOf rows i d ≡ cond (within c 1 d && within k 1 i) (f i d) (j ! cellOf rows i d)
       column i d h n = rw (not-one c d n) (elsewhere i d (λ z. n (same-column rows i d k c h a z)))
 
       go : (i d : ℕ) → i < rows → d < cols → (s t : Bool) → eqb i k ≡ s → eqb d c ≡ t
-          → set j (cellOf rows k c) v ! cellOf rows i d ≡ cond (among c 1 d && among k 1 i) (f i d) (j ! cellOf rows i d)
+          → set j (cellOf rows k c) v ! cellOf rows i d ≡ cond (within c 1 d && within k 1 i) (f i d) (j ! cellOf rows i d)
       go i d h l true true p q =
           let x : i ≡ k = eqb-true i k p in
           let y : d ≡ c = eqb-true d c q in
-          rw (x, y, is-within c 1 c (omega arith) (omega arith), is-within k 1 k (omega arith) (omega arith)) (getD-set-same j (cellOf rows k c) v nan inside ∙ e)
+          rw (x, y, in-within c 1 c (omega arith) (omega arith), in-within k 1 k (omega arith) (omega arith)) (getD-set-same j (cellOf rows k c) v nan inside ∙ e)
       go i d h l true false p q = column i d h (eqb-false d c q)
       go i d h l false false p q = column i d h (eqb-false d c q)
       go i d h l false true p q =
@@ -89,7 +64,7 @@ module _ (rows cols : ℕ) (f : ℕ → ℕ → Float) where
 
   -- rows after rows
   pub rows-none : (from first width : ℕ) (j : List Float) → Put rows cols from 0 first width f j j
-  rows-none from first width j = record { size = refl; cells = λ k c h l. rw (among-none from k, and-false) }
+  rows-none from first width j = record { size = refl; cells = λ k c h l. rw (within-none from k, and-false) }
 
   above : (p s t : Bool) (x y : Float) → cond (p && t) x (cond (p && s) x y) ≡ cond (p && (s || t)) x y
   above true true true x y = refl
@@ -100,12 +75,12 @@ module _ (rows cols : ℕ) (f : ℕ → ℕ → Float) where
   pub rows-more : (from a b first width : ℕ) (j j′ j″ : List Float) → Put rows cols from a first width f j j′ → Put rows cols (from + a) b first width f j′ j″ → Put rows cols from (a + b) first width f j j″
   rows-more from a b first width j j′ j″ p q = record {
     size = q .size ∙ p .size;
-    cells = λ k c h l. q .cells k c h l ∙ rw (p .cells k c h l, ← among-split from a b k) (above (among first width c) (among from a k) (among (from + a) b k) (f k c) (j ! cellOf rows k c));
+    cells = λ k c h l. q .cells k c h l ∙ rw (p .cells k c h l, ← within-split from a b k) (above (within first width c) (within from a k) (within (from + a) b k) (f k c) (j ! cellOf rows k c));
   }
 
   -- columns after columns
   pub columns-none : (from count first : ℕ) (j : List Float) → Put rows cols from count first 0 f j j
-  columns-none from count first j = record { size = refl; cells = λ k c h l. rw (among-none first c) }
+  columns-none from count first j = record { size = refl; cells = λ k c h l. rw (within-none first c) }
 
   beside : (p s t : Bool) (x y : Float) → cond (t && p) x (cond (s && p) x y) ≡ cond ((s || t) && p) x y
   beside true true true x y = refl
@@ -118,7 +93,7 @@ module _ (rows cols : ℕ) (f : ℕ → ℕ → Float) where
   pub columns-more : (from count first a b : ℕ) (j j′ j″ : List Float) → Put rows cols from count first a f j j′ → Put rows cols from count (first + a) b f j′ j″ → Put rows cols from count first (a + b) f j j″
   columns-more from count first a b j j′ j″ p q = record {
     size = q .size ∙ p .size;
-    cells = λ k c h l. q .cells k c h l ∙ rw (p .cells k c h l, ← among-split first a b c) (beside (among from count k) (among first a c) (among (first + a) b c) (f k c) (j ! cellOf rows k c));
+    cells = λ k c h l. q .cells k c h l ∙ rw (p .cells k c h l, ← within-split first a b c) (beside (within from count k) (within first a c) (within (first + a) b c) (f k c) (j ! cellOf rows k c));
   }
 
   -- from the first column on, up to column r
