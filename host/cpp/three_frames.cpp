@@ -1,44 +1,8 @@
 // A wall seen from three frames: its plane by Eigen's SelfAdjointEigenSolver, and the blocks that the library adds to a Hessian
 // and a gradient, checked against the rows that it gives for the same wall: H = JᵀJ, g = Jᵀr and cost = rᵀr, within rounding.
-#include <maghnelt.hpp>
-
-#include <Eigen/Geometry>
-
-#include <cmath>
-#include <cstdio>
-#include <cstdlib>
+#include "wall.hpp"
 
 namespace {
-
-constexpr std::uint32_t dof = 6;
-constexpr double sigma = 0.002;
-
-// The scanner stood here, turned by an angle about the vertical.
-struct Pose {
-    Eigen::Matrix3d rotation;
-    Eigen::Vector3d shift;
-};
-
-Pose pose(double angle, double x, double y) {
-    return {Eigen::AngleAxisd(angle, Eigen::Vector3d::UnitZ()).toRotationMatrix(), Eigen::Vector3d(x, y, 1.5)};
-}
-
-// Points of the wall y = 5, three metres high, uneven by some millimetres, spread the same on every run.
-maghnelt::Points wall(Eigen::Index count, double from) {
-    maghnelt::Points points(3, count);
-    for (Eigen::Index k = 0; k < count; ++k) {
-        const auto spread = [k](double step) { return std::fmod(static_cast<double>(k) * step, 1.0); };
-        points.col(k) << from + 4.0 * spread(0.754877), 5.0 + sigma * (2.0 * spread(0.618034) - 1.0), 3.0 * spread(0.569840);
-    }
-    return points;
-}
-
-void expect(bool holds, const char *what) {
-    if (!holds) {
-        std::printf("FAILED: %s\n", what);
-        std::exit(1);
-    }
-}
 
 // How far apart two matrices are, as a part of the larger one's size.
 template <typename A, typename B> double apart(const A &a, const B &b) {
