@@ -1,8 +1,8 @@
 -- Finite sums have finite terms only: a sum leaves neither an infinity nor a NaN again. Assumes nothing.
 use Prim.Native.Nat.{ℕ, zero, suc, _+_, _*_, _/_, _%_, _<_}
 use mathlib.Core.Path.{_≡_, refl, sym}
-use mathlib.Core.Bool.{true, false, _&&_, and-assoc, true≢false}
-use mathlib.Core.List.{List, [], _∷_, _++_}
+use mathlib.Core.Bool.{true, false, true≢false}
+use mathlib.Core.List.{List}
 use mathlib.Core.Logic.{⊎-elim}
 use native.Mathlib.Nat.{not-suc-le-zero, mod-lt, div-lt-iff-lt-mul, div-add-mod', eq-or-lt-of-le, le-of-suc-le-suc}
 use native.Mathlib.Omega.{arith}
@@ -54,9 +54,3 @@ module _ (all : List Float) (whole : Whole all) (sums : allFinite (tab 3 (coordi
 
   pub all-finite : allFinite all ≡ true
   all-finite = finite-all all number-finite
-
--- two lists, one after the other
-pub finite-both : (a b : List Float) → allFinite (a ++ b) ≡ (allFinite a && allFinite b)
-unfolding allFinite
-finite-both [] b = refl
-finite-both (x ∷ a) b = rw (finite-both a b) (sym (and-assoc (finite x) (allFinite a) (allFinite b)))

@@ -5,7 +5,7 @@ use native.Mathlib.Nat.{le-of-suc-le-suc, not-suc-le-zero}
 use native.Mathlib.Omega.{arith}
 use mathlib.Core.Path.{_≡_, refl, sym}
 use mathlib.Core.Bool.{Bool, true, false, _&&_, and-true, and-false, and-assoc, and-eq-true-iff}
-use mathlib.Core.List.{List, [], _∷_}
+use mathlib.Core.List.{List, [], _∷_, _++_}
 use lib.ListN.{length, getD, drop}
 use lib.Seq.{drop-cons, drop-length}
 use lib.Ieee.{Float, nan, inf, fin, lt}
@@ -61,3 +61,9 @@ pub finite-all : (l : List Float) → ((k : ℕ) → k < length l → finite (ge
 unfolding allFinite
 finite-all [] h = refl
 finite-all (x ∷ l) h = rw (h 0 (omega arith), finite-all l (λ k j. h (suc k) (omega arith)))
+
+-- two lists, one after the other
+pub finite-both : (a b : List Float) → allFinite (a ++ b) ≡ (allFinite a && allFinite b)
+unfolding allFinite
+finite-both [] b = refl
+finite-both (x ∷ a) b = rw (finite-both a b) (sym (and-assoc (finite x) (allFinite a) (allFinite b)))

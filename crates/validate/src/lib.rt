@@ -16,6 +16,16 @@ fn both(a: bool, b: bool) -> bool
     if a { b } else { false }
 }
 
+// Four numbers at once, with no branch between them.
+pub fn four_finite(a: f64, b: f64, c: f64, d: f64) -> bool
+    ensures { λ r. ⌜ r ≡ (finite a && finite b && (finite c && finite d)) ⌝ }
+{
+    both(
+        both(is_finite(a), is_finite(b)),
+        both(is_finite(c), is_finite(d)),
+    )
+}
+
 // Every number of a list. No early return: the compiler then tests several numbers at once.
 pub fn all_finite(list: &[f64]) -> bool
     ensures { λ r. ⌜ r ≡ allFinite (now (list .entry)) ⌝ }

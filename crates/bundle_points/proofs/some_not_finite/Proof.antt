@@ -2,7 +2,8 @@
 use mathlib.Core.Path.{sym, _∙_}
 use mathlib.Core.List.{_++_}
 use Rattle.bundle_points.proofs.Laws.{both-whole}
-use Rattle.bundle_points.proofs.Finite.{all-finite, finite-both}
+use Rattle.validate.proofs.Laws.{finite-both}
+use Rattle.bundle_points.proofs.Finite.{all-finite}
 use borrow.Author.Needs.{needs}
 use Rattle.bundle_points.proofs.some_not_finite.Statement.{statement}
 use Rattle.bundle_points.proofs.some_not_finite.Tie as tie
