@@ -5,6 +5,7 @@ use mathlib.Core.Bool.{Bool, false, not, _||_, cond}
 use mathlib.Core.List.{List, [], _∷_}
 use lib.ListN.{length}
 use lib.Ieee.{Float, binary64, ofBits, le, lt}
+use Rattle.refusals.specs.Refusal.{Reason, _when_}
 use Rattle.sums.specs.Sum.{_⊕_, zeroF, sumFromZero, grid}
 use Rattle.lists.specs.Part.{_!_}
 use Rattle.validate.specs.Finite.{allFinite}
@@ -54,6 +55,10 @@ three = ofBits binary64 0x4008_0000_0000_0000
 -- 5: "The frames' counts summed in order, plus the fixed count, are below 3". A NaN total is not
 unfoldable pub tooFew : List Float → List Float → Bool
 tooFew frames fixed = lt (countSum frames ⊕ fixedCount fixed) three
+
+-- 4 and 5, which look at counts alone
+abbrev pub countReasons : List Float → List Float → List Reason
+countReasons frames fixed = 4 when someEmpty frames ∷ 5 when tooFew frames fixed ∷ []
 
 -- 6: "A moment of a frame or the fixed set ... is not finite", whether the fixed set will be dropped or not
 unfoldable pub notFinite : List Float → List Float → Bool

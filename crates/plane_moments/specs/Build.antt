@@ -20,7 +20,7 @@ use Rattle.normal_blocks.specs.Somewhere.{nowhere-at}
 use Rattle.point_moments.specs.Moments.{MOMENTS}
 use Rattle.point_moments.specs.Scatter.{CENTRED, hasMean}
 use Rattle.derivative.specs.Action.{mostDof}
-use Rattle.plane_fit.specs.Calls.{mostFrames, badRecords, badCount, at-most-one, one-each}
+use Rattle.plane_fit.specs.Calls.{mostFrames, badRecords, badCount, whole-records, at-most-one, one-each}
 use Rattle.plane_fit.specs.Records.{whole, record-at}
 use Rattle.frame_sets.specs.Steps.{frame-mean}
 use Rattle.frame_sets.specs.Sets.{setCount, setAt, countAt, emptyAt, someEmpty, tooFew, notFinite, dropped, centredFrames, centredFixed, points}
@@ -72,6 +72,7 @@ Builds dof frames fixed sigma outFrames outFixed points dropped r outFrames′ o
 
 -- the lists have the lengths that the work asks for
 pub record Whole (frames fixed outFrames outFixed : List Float) : Type 0 where
+  pub frames-whole : length frames ≡ MOMENTS * setCount frames
   pub fixed-set : (length fixed ≡ 0) ⊎ (length fixed ≡ MOMENTS)
   pub frames-out : length outFrames ≡ setCount frames * CENTRED
   pub fixed-out : length outFixed ≡ setCount fixed * CENTRED
@@ -79,9 +80,11 @@ pub record Whole (frames fixed outFrames outFixed : List Float) : Type 0 where
 pub whole-sets : (frames fixed outFrames outFixed : List Float) → badShapes frames fixed outFrames outFixed ≡ false → Whole frames fixed outFrames outFixed
 unfolding badShapes
 whole-sets frames fixed outFrames outFixed h =
-    let p = either-none (badRecords MOMENTS 1 fixed) _ (either-none (badRecords MOMENTS mostFrames frames) _ h .1) in
+    let o = either-none (badRecords MOMENTS mostFrames frames) _ h in
+    let p = either-none (badRecords MOMENTS 1 fixed) _ (o .1) in
     let q = either-none (badCount MOMENTS frames CENTRED outFrames) _ (p .1) in
     record {
+      frames-whole = whole-records MOMENTS mostFrames frames (o .0) .0;
       fixed-set = at-most-one MOMENTS fixed (p .0);
       frames-out = one-each MOMENTS frames CENTRED outFrames (q .0) ∙ mul-comm CENTRED (setCount frames);
       fixed-out = one-each MOMENTS fixed CENTRED outFixed (q .1) ∙ mul-comm CENTRED (setCount fixed);
@@ -109,8 +112,8 @@ above-zero (fin true m e) f h =
     absurd (true≢false (sym c ∙ p .1))
 
 module _ (dof : ℕ) (frames fixed : List Float) (sigma : Float) (outFrames outFixed : List Float) (accepted : buildRefusal dof frames fixed sigma outFrames outFixed ≡ 0) where
-  -- the tests 3, 4 and 6 do not apply
-  passed : (badShapes frames fixed outFrames outFixed ≡ false) × (someEmpty frames ≡ false) × (notFinite frames fixed ≡ false)
+  -- the tests 4 and 6 do not apply
+  passed : (someEmpty frames ≡ false) × (notFinite frames fixed ≡ false)
   unfolding buildRefusal
   passed =
       let one = none (ltb mostDof dof) 0 _ accepted in
@@ -119,19 +122,16 @@ module _ (dof : ℕ) (frames fixed : List Float) (sigma : Float) (outFrames outF
       let four = none (someEmpty frames) 3 _ (three .1) in
       let five = none (tooFew frames fixed) 4 _ (four .1) in
       let six = none (notFinite frames fixed) 5 _ (five .1) in
-      (three .0, four .0, six .0)
+      (four .0, six .0)
 
   pub built-sets : someEmpty frames ≡ false
-  built-sets = passed .1
-
-  pub built-whole : Whole frames fixed outFrames outFixed
-  built-whole = whole-sets frames fixed outFrames outFixed (passed .0)
+  built-sets = passed .0
 
   -- an accepted build has only finite moments, the fixed set's too where it is dropped
   pub built-finite : ((k : ℕ) → k < length frames → finite (getD frames k nan) ≡ true) × ((k : ℕ) → k < length fixed → finite (getD fixed k nan) ≡ true)
   unfolding notFinite
   built-finite =
-      let p = either-none (not (allFinite frames)) (not (allFinite fixed)) (passed .2) in
+      let p = either-none (not (allFinite frames)) (not (allFinite fixed)) (passed .1) in
       (finite-at frames (not-false _ (p .0)), finite-at fixed (not-false _ (p .1)))
 
   -- and none of its frames is without a mean, so that the Rust's Degenerate, which has no number here, cannot arise
@@ -145,4 +145,4 @@ module _ (dof : ℕ) (frames fixed : List Float) (sigma : Float) (outFrames outF
       let w = whole MOMENTS frames k (omega arith) h in
       let e = record-at MOMENTS frames k w 0 (omega arith) in
       let f = built-finite .0 (MOMENTS * k + 0) (omega arith) in
-      above-zero (countAt frames k) (ap finite e ∙ f) (nowhere-at (emptyAt frames) (setCount frames) (passed .1) k h)
+      above-zero (countAt frames k) (ap finite e ∙ f) (nowhere-at (emptyAt frames) (setCount frames) (passed .0) k h)

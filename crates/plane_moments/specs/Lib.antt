@@ -1,3 +1,4 @@
 pub mod Accumulate
 pub mod Build
 pub mod Linearize
+pub mod Steps
