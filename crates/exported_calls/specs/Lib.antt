@@ -1,2 +1,3 @@
+pub mod Builds
 pub mod Row
 pub mod Laws

@@ -1,11 +1,15 @@
-// Calls of the exported functions, one after the other. What is proved of them comes from the exported contracts alone: the calls make the chain that demand 3
-// speaks of, and leave what it says.
+// Calls of the exported functions, one after the other. What is proved of them comes from the exported contracts alone: accumulating calls make the chain that
+// demand 3 speaks of, and leave what it says; the two builds agree where the survey rule does not refuse.
 use maghnelt::maghnelt_frames_accumulate;
+use maghnelt::maghnelt_frames_build;
+use maghnelt::maghnelt_frames_build_strict;
 use maghnelt::maghnelt_matches_accumulate;
 ghost use mathlib.Core.List.{[], _∷_};
 ghost use Rattle.plane_moments.specs.Accumulate.{work};
+ghost use Rattle.plane_moments.specs.Build.{outputs};
 ghost use Rattle.normal_list.specs.Work.{framesMade, matchesMade};
 ghost use Rattle.exported_calls.specs.Row.{InARow};
+ghost use Rattle.exported_calls.specs.Builds.{Agree};
 
 // What three calls return.
 pub struct Numbers {
@@ -66,4 +70,50 @@ pub fn three_calls(
         second: two,
         third: three,
     }
+}
+
+// What the two builds return.
+pub struct Answers {
+    pub plain: u32,
+    pub strict: u32,
+}
+
+// Both builds on the same inputs, each with outputs of its own.
+pub fn both_builds(
+    dof: u32,
+    frames: &[f64],
+    fixed: &[f64],
+    sigma: f64,
+    plain_frames: &mut [f64],
+    plain_fixed: &mut [f64],
+    plain_points: &mut f64,
+    plain_dropped: &mut u32,
+    strict_frames: &mut [f64],
+    strict_fixed: &mut [f64],
+    strict_points: &mut f64,
+    strict_dropped: &mut u32,
+) -> Answers
+    ensures { λ r. ⌜ Agree (outputs (now («plain_frames» .entry)) (now («plain_fixed» .entry)) (now («plain_points» .entry)) (now («plain_dropped» .entry))) (outputs (now («strict_frames» .entry)) (now («strict_fixed» .entry)) (now («strict_points» .entry)) (now («strict_dropped» .entry))) (r .plain) (r .strict) (outputs (now («plain_frames» .exit)) (now («plain_fixed» .exit)) (now («plain_points» .exit)) (now («plain_dropped» .exit))) (outputs (now («strict_frames» .exit)) (now («strict_fixed» .exit)) (now («strict_points» .exit)) (now («strict_dropped» .exit))) ⌝ }
+{
+    let plain = maghnelt_frames_build(
+        dof,
+        frames,
+        fixed,
+        sigma,
+        plain_frames,
+        plain_fixed,
+        plain_points,
+        plain_dropped,
+    );
+    let strict = maghnelt_frames_build_strict(
+        dof,
+        frames,
+        fixed,
+        sigma,
+        strict_frames,
+        strict_fixed,
+        strict_points,
+        strict_dropped,
+    );
+    Answers { plain, strict }
 }

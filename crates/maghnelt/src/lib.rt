@@ -11,6 +11,7 @@ ghost use Rattle.normal_blocks.specs.Calls.{remapRefusal};
 ghost use Rattle.plane_fit.specs.Fit.{fitList};
 ghost use Rattle.plane_fit.specs.Calls.{fitRefusal};
 ghost use Rattle.plane_moments.specs.Build.{Builds};
+ghost use Rattle.strict_build.specs.Strict.{BuildsStrictly};
 ghost use Rattle.plane_moments.specs.Accumulate.{framesCall, work};
 ghost use Rattle.plane_moments.specs.Linearize.{Linearizes};
 ghost use Rattle.plane_bundle.specs.Fit.{Fits};
@@ -153,6 +154,32 @@ pub extern "C" fn maghnelt_frames_build(
     ensures { λ r. ⌜ Builds dof (now (frames .entry)) (now (fixed .entry)) sigma (now («centred_frames» .entry)) (now («centred_fixed» .entry)) (now (points .entry)) (now («fixed_dropped» .entry)) r (now («centred_frames» .exit)) (now («centred_fixed» .exit)) (now (points .exit)) (now («fixed_dropped» .exit)) ⌝ }
 {
     plane_moments::build::build(
+        dof,
+        frames,
+        fixed,
+        sigma,
+        centred_frames,
+        centred_fixed,
+        points,
+        fixed_dropped,
+    )
+}
+
+// The same by the survey rule, which refuses a fixed count below 0.
+#[no_mangle]
+pub extern "C" fn maghnelt_frames_build_strict(
+    dof: u32,
+    frames: &[f64],
+    fixed: &[f64],
+    sigma: f64,
+    centred_frames: &mut [f64],
+    centred_fixed: &mut [f64],
+    points: &mut f64,
+    fixed_dropped: &mut u32,
+) -> u32
+    ensures { λ r. ⌜ BuildsStrictly dof (now (frames .entry)) (now (fixed .entry)) sigma (now («centred_frames» .entry)) (now («centred_fixed» .entry)) (now (points .entry)) (now («fixed_dropped» .entry)) r (now («centred_frames» .exit)) (now («centred_fixed» .exit)) (now (points .exit)) (now («fixed_dropped» .exit)) ⌝ }
+{
+    strict_build::build_strict(
         dof,
         frames,
         fixed,

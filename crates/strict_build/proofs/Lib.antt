@@ -1,0 +1,4 @@
+pub mod Laws
+pub mod StrictAgrees
+pub mod StrictTotal
+pub mod Worked
