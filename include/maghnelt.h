@@ -48,6 +48,7 @@ extern "C" {
  * 10  a mapped frame's offset plus dof exceeds the order n of the Hessian
  * 11  a plane's normal has a norm that is not finite or not above 1e-12
  * 12  the point-to-plane variance is not finite and positive
+ * 13  the fixed set's count is below 0 (in a strict build only)
  */
 
 /*
@@ -145,6 +146,17 @@ uint32_t maghnelt_frames_build(uint32_t dof, const double *frames, size_t frames
                                size_t fixed_length, double sigma, double *centred_frames, size_t centred_frames_length,
                                double *centred_fixed, size_t centred_fixed_length, double *points,
                                uint32_t *fixed_dropped);
+
+/*
+ * Builds a factor by the survey rule: as _build, but a fixed set of a count below 0 is refused by 13 (-infinity too; -0 and
+ * a NaN are not below 0), and the total that 5 tests counts only sets that are kept: it is what *points gets. A fixed set of
+ * a count of 0 or -0 is dropped, as in _build. Refused by 1, 2, 3, 13, 4, 5, 6 and 7, in this order. Unless the answer is 13,
+ * the answer and all that is written are those of _build on the same arguments.
+ */
+uint32_t maghnelt_frames_build_strict(uint32_t dof, const double *frames, size_t frames_length, const double *fixed,
+                                      size_t fixed_length, double sigma, double *centred_frames,
+                                      size_t centred_frames_length, double *centred_fixed, size_t centred_fixed_length,
+                                      double *points, uint32_t *fixed_dropped);
 
 /*
  * The mean (3) and the scatter about it (9, by columns; neither divided nor made symmetric) of what a plane is fitted to,

@@ -112,20 +112,22 @@ static void block_maps(void) {
     expect(out[3] == MAGHNELT_UNMAPPED && out[4] == MAGHNELT_UNMAPPED, "words that go nowhere");
 }
 
+/* The moments of the corners of a square on the floor. */
+static const double square[MAGHNELT_MOMENTS] = {4, 4, 4, 0, 8, 4, 0, 4, 8, 0, 0, 0, 0};
+
 /* A frame of four corners, with a fixed set that is kept and one that is dropped. */
 static void build(void) {
-    const double frames[MAGHNELT_MOMENTS] = {4, 4, 4, 0, 8, 4, 0, 4, 8, 0, 0, 0, 0};
     double fixed[MAGHNELT_MOMENTS] = {1, 1, 1, 1, 1, 1, 1, 1, 1, 1, 1, 1, 1};
     double centred_frames[MAGHNELT_CENTRED] = {7};
     double centred_fixed[MAGHNELT_CENTRED] = {7};
     double points = 7;
     uint32_t dropped = 2;
 
-    expect(maghnelt_frames_build(6, SLICE(frames), SLICE(fixed), 0.0, SLICE(centred_frames), SLICE(centred_fixed), &points,
+    expect(maghnelt_frames_build(6, SLICE(square), SLICE(fixed), 0.0, SLICE(centred_frames), SLICE(centred_fixed), &points,
                                  &dropped) == 7,
            "no sigma is refused");
     expect(points == 7 && dropped == 2 && centred_frames[0] == 7 && centred_fixed[0] == 7, "a refused build writes nothing");
-    expect(maghnelt_frames_build(6, SLICE(frames), SLICE(fixed), 0.5, SLICE(centred_frames), SLICE(centred_fixed), &points,
+    expect(maghnelt_frames_build(6, SLICE(square), SLICE(fixed), 0.5, SLICE(centred_frames), SLICE(centred_fixed), &points,
                                  &dropped) == 0,
            "a build is accepted");
     expect(points == 5 && dropped == 0, "points of frames and fixed set");
@@ -133,14 +135,47 @@ static void build(void) {
     expect(centred_fixed[0] == 1 && centred_fixed[3] == 1 && centred_fixed[4] == 0, "a centred fixed set");
     fixed[0] = -1;
     centred_fixed[0] = 7;
-    expect(maghnelt_frames_build(6, SLICE(frames), SLICE(fixed), 0.5, SLICE(centred_frames), SLICE(centred_fixed), &points,
+    expect(maghnelt_frames_build(6, SLICE(square), SLICE(fixed), 0.5, SLICE(centred_frames), SLICE(centred_fixed), &points,
                                  &dropped) == 0 &&
                points == 4 && dropped == 1 && centred_fixed[0] == 7,
            "a fixed set without points is dropped and left");
     fixed[0] = -3;
-    expect(maghnelt_frames_build(6, SLICE(frames), SLICE(fixed), 0.5, SLICE(centred_frames), SLICE(centred_fixed), &points,
+    expect(maghnelt_frames_build(6, SLICE(square), SLICE(fixed), 0.5, SLICE(centred_frames), SLICE(centred_fixed), &points,
                                  &dropped) == 5,
            "a fixed set counts before it is dropped");
+}
+
+/* The same frame by the survey rule. */
+static void build_strict(void) {
+    double fixed[MAGHNELT_MOMENTS] = {-1, 1, 1, 1, 1, 1, 1, 1, 1, 1, 1, 1, 1};
+    double centred_frames[MAGHNELT_CENTRED] = {7};
+    double centred_fixed[MAGHNELT_CENTRED] = {7};
+    double points = 7;
+    uint32_t dropped = 2;
+
+    expect(maghnelt_frames_build_strict(6, SLICE(square), SLICE(fixed), 0.5, SLICE(centred_frames), SLICE(centred_fixed), &points,
+                                        &dropped) == 13,
+           "a negative fixed count is refused");
+    expect(points == 7 && dropped == 2 && centred_frames[0] == 7 && centred_fixed[0] == 7,
+           "a refused strict build writes nothing");
+    expect(maghnelt_frames_build(6, SLICE(square), SLICE(fixed), 0.5, SLICE(centred_frames), SLICE(centred_fixed), &points,
+                                 &dropped) == 0 &&
+               dropped == 1,
+           "where a build that is not strict drops the set");
+    fixed[0] = 0;
+    points = 7;
+    dropped = 2;
+    expect(maghnelt_frames_build_strict(6, SLICE(square), SLICE(fixed), 0.5, SLICE(centred_frames), SLICE(centred_fixed), &points,
+                                        &dropped) == 0 &&
+               points == 4 && dropped == 1 && centred_fixed[0] == 7,
+           "a fixed set without points is dropped and left by a strict build too");
+    fixed[0] = 1;
+    expect(maghnelt_frames_build_strict(6, SLICE(square), SLICE(fixed), 0.5, SLICE(centred_frames), SLICE(centred_fixed), &points,
+                                        &dropped) == 0 &&
+               points == 5 && dropped == 0,
+           "a strict build is accepted");
+    expect(centred_frames[1] == 1 && centred_frames[4] == 4 && centred_fixed[0] == 1 && centred_fixed[3] == 1,
+           "frame and fixed set of a strict build are centred");
 }
 
 /* One frame of four points, lifted by five metres, and a fixed point. */
@@ -320,6 +355,7 @@ int main(void) {
     planes();
     block_maps();
     build();
+    build_strict();
     fit();
     frame_factor();
     bundle_fit();

@@ -20,16 +20,6 @@ maghnelt::Points derivatives(const Pose &at, const maghnelt::Points &seen) {
     return columns;
 }
 
-// The number of the reason for which a call is turned away, 0 if it is not.
-template <typename Call> std::uint32_t refused(const Call &call) {
-    try {
-        call();
-        return 0;
-    } catch (const maghnelt::Refused &why) {
-        return why.reason();
-    }
-}
-
 // The corners of a square on the floor and a point above it.
 void corners() {
     maghnelt::Points square(3, 4);

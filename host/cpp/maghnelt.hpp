@@ -48,6 +48,8 @@ inline const char *reason_text(std::uint32_t reason) noexcept {
         return "a plane's normal has a norm that is not finite or not above 1e-12";
     case 12:
         return "the point-to-plane variance is not finite and positive";
+    case 13:
+        return "the fixed set's count is below 0 (in a strict build only)";
     default:
         return "one that this version of the header does not know";
     }
@@ -311,13 +313,12 @@ class FrameFactor {
   public:
     // Frames and fixed set are moments; a fixed set is one column, or none.
     FrameFactor(std::uint32_t dof, const MomentsList &frames, const MomentsList &fixed, double sigma)
-        : width(dof), noise(sigma), own(MAGHNELT_CENTRED, frames.cols()), known(MAGHNELT_CENTRED, fixed.cols()) {
-        std::uint32_t dropped = 0;
-        detail::accept(maghnelt_frames_build(dof, MAGHNELT_LENT(frames), MAGHNELT_LENT(fixed), sigma, MAGHNELT_LENT(own),
-                                             MAGHNELT_LENT(known), &total, &dropped));
-        if (dropped != 0) {
-            known.resize(MAGHNELT_CENTRED, 0);
-        }
+        : FrameFactor(maghnelt_frames_build, dof, frames, fixed, sigma) {}
+
+    // The same by the survey rule: a fixed set of a negative count is refused by 13, where the constructor drops it after it has lowered
+    // the total of 5. Unless it is refused by 13, the factor is the constructor's, and so is any other refusal.
+    static FrameFactor build_strict(std::uint32_t dof, const MomentsList &frames, const MomentsList &fixed, double sigma) {
+        return FrameFactor(maghnelt_frames_build_strict, dof, frames, fixed, sigma);
     }
 
     // All points, free and fixed.
@@ -356,6 +357,18 @@ class FrameFactor {
     }
 
   private:
+    using Build = decltype(maghnelt_frames_build);
+
+    FrameFactor(Build *build, std::uint32_t dof, const MomentsList &frames, const MomentsList &fixed, double sigma)
+        : width(dof), noise(sigma), own(MAGHNELT_CENTRED, frames.cols()), known(MAGHNELT_CENTRED, fixed.cols()) {
+        std::uint32_t dropped = 0;
+        detail::accept(build(dof, MAGHNELT_LENT(frames), MAGHNELT_LENT(fixed), sigma, MAGHNELT_LENT(own), MAGHNELT_LENT(known), &total,
+                             &dropped));
+        if (dropped != 0) {
+            known.resize(MAGHNELT_CENTRED, 0);
+        }
+    }
+
     std::uint32_t width;
     double noise;
     CentredList own;

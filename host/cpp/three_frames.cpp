@@ -1,5 +1,6 @@
 // A wall seen from three frames: its plane by Eigen's SelfAdjointEigenSolver, and the blocks that the library adds to a Hessian
-// and a gradient, checked against the rows that it gives for the same wall: H = JᵀJ, g = Jᵀr and cost = rᵀr, within rounding.
+// and a gradient, checked against the rows that it gives for the same wall: H = JᵀJ, g = Jᵀr and cost = rᵀr, within rounding;
+// and the same factor built by the survey rule.
 #include "wall.hpp"
 
 namespace {
@@ -7,6 +8,19 @@ namespace {
 // How far apart two matrices are, as a part of the larger one's size.
 template <typename A, typename B> double apart(const A &a, const B &b) {
     return (a - b).cwiseAbs().maxCoeff() / b.cwiseAbs().maxCoeff();
+}
+
+// A factor by the survey rule is the one that the constructor builds, unless the fixed set has a negative count.
+void survey_rule(const maghnelt::FrameFactor &factor, const maghnelt::MomentsList &own, maghnelt::MomentsList fixed) {
+    const maghnelt::FrameFactor strict = maghnelt::FrameFactor::build_strict(dof, own, fixed, sigma);
+    expect(strict.points() == factor.points(), "a strict build has the same points");
+    expect(strict.frames() == factor.frames() && strict.fixed() == factor.fixed(), "and the same centred frames and fixed set");
+
+    fixed(0, 0) = -1;
+    expect(refused([&] { maghnelt::FrameFactor::build_strict(dof, own, fixed, sigma); }) == 13, "a negative fixed count is reason 13");
+    expect(maghnelt::FrameFactor(dof, own, fixed, sigma).fixed().cols() == 0, "which the constructor drops");
+    fixed(0, 0) = 0;
+    expect(maghnelt::FrameFactor::build_strict(dof, own, fixed, sigma).fixed().cols() == 0, "a set without points is dropped");
 }
 
 } // namespace
@@ -52,11 +66,7 @@ int main() {
     Eigen::VectorXd empty(0);
     expect(factor.accumulate(actions, fitted, maghnelt::BlockMap(), none, empty) == cost, "the cost alone may be asked for");
 
-    try {
-        maghnelt::FrameFactor(dof, own, fixed, 0.0);
-        expect(false, "a sigma of 0 is refused");
-    } catch (const maghnelt::Refused &refused) {
-        expect(refused.reason() == 7, "a sigma of 0 is reason 7");
-    }
+    expect(refused([&] { maghnelt::FrameFactor(dof, own, fixed, 0.0); }) == 7, "a sigma of 0 is reason 7");
+    survey_rule(factor, own, fixed);
     return 0;
 }

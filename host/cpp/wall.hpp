@@ -1,4 +1,4 @@
-// The wall of the examples, the poses it is seen from, and what they check their numbers by.
+// The wall of the examples, the poses it is seen from, and what they check their numbers and refusals by.
 #pragma once
 
 #include <maghnelt.hpp>
@@ -36,5 +36,15 @@ inline void expect(bool holds, const char *what) {
     if (!holds) {
         std::printf("FAILED: %s\n", what);
         std::exit(1);
+    }
+}
+
+// The number of the reason for which a call is turned away, 0 if it is not.
+template <typename Call> std::uint32_t refused(const Call &call) {
+    try {
+        call();
+        return 0;
+    } catch (const maghnelt::Refused &why) {
+        return why.reason();
     }
 }

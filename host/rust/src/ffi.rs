@@ -96,6 +96,20 @@ extern "C" {
         points: *mut f64,
         fixed_dropped: *mut u32,
     ) -> u32;
+    pub(crate) fn maghnelt_frames_build_strict(
+        dof: u32,
+        frames: *const f64,
+        frames_length: usize,
+        fixed: *const f64,
+        fixed_length: usize,
+        sigma: f64,
+        centred_frames: *mut f64,
+        centred_frames_length: usize,
+        centred_fixed: *mut f64,
+        centred_fixed_length: usize,
+        points: *mut f64,
+        fixed_dropped: *mut u32,
+    ) -> u32;
     pub(crate) fn maghnelt_frames_fit(
         dof: u32,
         frames: *const f64,

@@ -51,11 +51,16 @@ pub struct FrameFactor {
     fixed_dropped: bool,
 }
 
+/// One of the two calls that build a factor.
+type Build =
+    fn(u32, &[f64], &[f64], f64, &mut [f64], &mut [f64], &mut f64, &mut u32) -> Result<(), Refusal>;
+
 impl FrameFactor {
     /// A plane that the frames with these moments see, anchored by the `fixed` set; `dof` is the number of the parameters of
     /// each frame's state, and `sigma` the standard deviation of a point's distance from the plane.
     ///
-    /// A fixed set of a count at or below 0 counts in the test of the total, and is dropped then.
+    /// A fixed set of a count at or below 0 counts in the test of the total, and is dropped then. Where a count below 0 has to
+    /// be refused, use [`build_strict`](FrameFactor::build_strict).
     ///
     /// # Errors
     ///
@@ -82,6 +87,64 @@ impl FrameFactor {
         fixed: Option<&Moments>,
         sigma: f64,
     ) -> Result<FrameFactor, Refusal> {
+        FrameFactor::built_by(slices::frames_build, dof, frames, fixed, sigma)
+    }
+
+    /// The factor that [`new`](FrameFactor::new) builds, by the survey rule: a fixed set of a count below 0 is refused, and
+    /// the test of the total counts only sets that are kept.
+    ///
+    /// Use it for surveys, whose handbook forbids a negative fixed count. `new` drops such a set without telling it from one
+    /// of no points or, where the set lowers the total too far, refuses a plane of enough points by
+    /// [`Refusal::TotalCount`]. A fixed set of no points is dropped here too. Unless the answer is
+    /// [`Refusal::FixedCount`], it is that of `new`.
+    ///
+    /// # Errors
+    ///
+    /// In this order: [`Refusal::Dof`] above 9; [`Refusal::EmptyList`] without a frame; [`Refusal::Length`] with more than
+    /// [`MAX_FRAMES`](crate::MAX_FRAMES); [`Refusal::FixedCount`] if the fixed set's count is below 0;
+    /// [`Refusal::FrameCount`] if a frame has no points; [`Refusal::TotalCount`] if there are fewer than three in the frames
+    /// and the fixed set; [`Refusal::NotFinite`] if a moment is not finite; [`Refusal::Sigma`] if `sigma` is not finite and
+    /// positive.
+    ///
+    /// # Examples
+    ///
+    /// ```
+    /// use maghnelt::{FrameFactor, Moments, Refusal, MOMENTS};
+    ///
+    /// # fn main() -> Result<(), Refusal> {
+    /// let seen = [Moments::from_points(&[[1.0, 2.0, 3.0]; 5])?];
+    ///
+    /// // A record that was stored wrongly.
+    /// let mut record = [0.0; MOMENTS];
+    /// record[0] = -1.0;
+    /// let negative = Moments::from(record);
+    /// let strict = FrameFactor::build_strict(6, &seen, Some(&negative), 0.01);
+    /// assert_eq!(strict.unwrap_err(), Refusal::FixedCount);
+    /// assert!(FrameFactor::new(6, &seen, Some(&negative), 0.01)?.fixed_dropped());
+    ///
+    /// // No points are no mistake.
+    /// let factor = FrameFactor::build_strict(6, &seen, Some(&Moments::EMPTY), 0.01)?;
+    /// assert!(factor.fixed_dropped());
+    /// assert_eq!(factor.points(), 5.0);
+    /// # Ok(())
+    /// # }
+    /// ```
+    pub fn build_strict(
+        dof: u32,
+        frames: &[Moments],
+        fixed: Option<&Moments>,
+        sigma: f64,
+    ) -> Result<FrameFactor, Refusal> {
+        FrameFactor::built_by(slices::frames_build_strict, dof, frames, fixed, sigma)
+    }
+
+    fn built_by(
+        build: Build,
+        dof: u32,
+        frames: &[Moments],
+        fixed: Option<&Moments>,
+        sigma: f64,
+    ) -> Result<FrameFactor, Refusal> {
         let moments: Vec<[f64; MOMENTS]> = frames.iter().map(|frame| *frame.as_array()).collect();
         let fixed_moments: &[f64] = fixed.map_or(&[], |fixed| fixed.as_array());
         let mut centred_frames = vec![[0.0; CENTRED]; frames.len()];
@@ -89,7 +152,7 @@ impl FrameFactor {
         let of_fixed = if fixed.is_some() { CENTRED } else { 0 };
         let mut points = 0.0;
         let mut dropped = 0;
-        slices::frames_build(
+        build(
             dof,
             moments.as_flattened(),
             fixed_moments,

@@ -13,6 +13,7 @@
 //! | [`point_to_plane_sigma`] | the standard deviation of a point's distance from a plane |
 //! | [`BlockMap`], [`BlockMap::remapped`] | where the frames of a factor go in the Hessian |
 //! | [`FrameFactor`] | one plane over several frames, built once and then evaluated at many states |
+//! | [`FrameFactor::build_strict`] | the same, but a fixed set of a negative count is refused, as the survey rule asks |
 //! | [`frames_fit`] | the mean and the scatter that a plane is fitted to over several frames |
 //! | [`Bundle`] | one plane over several frames, point by point: centroid and scatter, a residual for each point |
 //! | [`MatchList`] | matches of points with planes on one pose: cost, normal equations, residuals |

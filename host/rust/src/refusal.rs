@@ -75,6 +75,7 @@ reasons! {
     10 Segment "a mapped frame's offset plus dof exceeds the order n of the Hessian"
     11 Normal "a plane's normal has a norm that is not finite or not above 1e-12"
     12 Variance "the point-to-plane variance is not finite and positive"
+    13 FixedCount "the fixed set's count is below 0 (in a strict build only)"
 }
 
 impl fmt::Display for Refusal {
@@ -93,7 +94,7 @@ mod tests {
     fn only_0_is_accepted() {
         assert_eq!(Refusal::of_answer(0), Ok(()));
         assert_eq!(Refusal::of_answer(3), Err(Refusal::Length));
-        for answer in [1, 12, 13, u32::MAX] {
+        for answer in [1, 13, 14, u32::MAX] {
             assert_eq!(
                 Refusal::of_answer(answer).map_err(Refusal::number),
                 Err(answer)

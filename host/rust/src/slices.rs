@@ -264,6 +264,45 @@ pub fn frames_build(
     })
 }
 
+/// [`frames_build`] by the survey rule: a fixed set of a count below 0 is refused, and [`Refusal::TotalCount`] counts only
+/// sets that are kept. Unless the answer is [`Refusal::FixedCount`], it is that of [`frames_build`], and so is all that is
+/// written.
+///
+/// # Errors
+///
+/// [`Refusal::Dof`]; [`Refusal::EmptyList`]; [`Refusal::Length`], as there; then [`Refusal::FixedCount`],
+/// [`Refusal::FrameCount`], [`Refusal::TotalCount`], [`Refusal::NotFinite`] and [`Refusal::Sigma`].
+#[allow(clippy::too_many_arguments)]
+#[inline]
+pub fn frames_build_strict(
+    dof: u32,
+    frames: &[f64],
+    fixed: &[f64],
+    sigma: f64,
+    centred_frames: &mut [f64],
+    centred_fixed: &mut [f64],
+    points: &mut f64,
+    fixed_dropped: &mut u32,
+) -> Result<(), Refusal> {
+    // SAFETY: as said at the head of this file.
+    Refusal::of_answer(unsafe {
+        ffi::maghnelt_frames_build_strict(
+            dof,
+            frames.as_ptr(),
+            frames.len(),
+            fixed.as_ptr(),
+            fixed.len(),
+            sigma,
+            centred_frames.as_mut_ptr(),
+            centred_frames.len(),
+            centred_fixed.as_mut_ptr(),
+            centred_fixed.len(),
+            points,
+            fixed_dropped,
+        )
+    })
+}
+
 /// Writes mean (3) and scatter (9) of what a plane is fitted to to `out`: the centred `frames`, each carried by its action,
 /// and then the `fixed` set, which is empty where there is none.
 ///

@@ -1,27 +1,12 @@
 //! Slices of wrong lengths are refused, and everything that was lent is as it was, bit for bit.
 
+mod lent;
+
+use lent::{bits, built, patterns, Build};
 use maghnelt::{
     slices, Refusal, ACTION, CENTRED, DECOMPOSITION, MATCH, MAX_FRAMES, MAX_ORDER, MAX_POINTS,
     MAX_WORDS, MOMENTS, PLANE, UNMAPPED,
 };
-
-/// Signalling and quiet NaNs with payloads, and numbers: what a write would hardly leave in place.
-fn patterns(length: usize) -> Vec<f64> {
-    const BITS: [u64; 5] = [
-        0x7FF0_0000_0000_0D1E,
-        0xFFF8_0000_0000_0B0B,
-        0x8000_0000_0000_0000,
-        0x0000_0000_0000_0001,
-        0x4059_0000_0000_0000,
-    ];
-    (0..length)
-        .map(|place| f64::from_bits(BITS[place % BITS.len()]))
-        .collect()
-}
-
-fn bits(numbers: &[f64]) -> Vec<u64> {
-    numbers.iter().map(|x| x.to_bits()).collect()
-}
 
 /// Lengths in which one or more of the slices are empty, one short or one long.
 fn wrong<const N: usize>(right: [usize; N]) -> Vec<[usize; N]> {
@@ -200,45 +185,39 @@ fn remap() {
 #[test]
 fn build() {
     let frames = vec![1.0; MOMENTS * (MAX_FRAMES + 1)];
-    let build = |lengths: [usize; 4]| {
-        let [of_frames, of_fixed, centred_frames, centred_fixed] = lengths;
-        let (mut out, mut fixed) = (patterns(centred_frames), patterns(centred_fixed));
-        let (mut points, mut dropped) = (patterns(1)[0], 77);
-        let answer = slices::frames_build(
-            9,
-            &frames[..of_frames],
-            &frames[..of_fixed],
-            1.0,
-            &mut out,
-            &mut fixed,
-            &mut points,
-            &mut dropped,
-        );
-        if answer.is_err() {
-            assert_eq!(bits(&out), bits(&patterns(centred_frames)));
-            assert_eq!(bits(&fixed), bits(&patterns(centred_fixed)));
-            assert_eq!((points.to_bits(), dropped), (patterns(1)[0].to_bits(), 77));
-        }
-        answer.map(|()| (points, dropped))
-    };
-    assert_eq!(build([3 * MOMENTS, 0, 3 * CENTRED, 0]), Ok((3.0, 0)));
-    let right = [3 * MOMENTS, MOMENTS, 3 * CENTRED, CENTRED];
-    assert_eq!(build(right), Ok((4.0, 0)));
-    for lengths in wrong(right) {
-        let [of_frames, of_fixed, ..] = lengths;
-        let expected = match of_frames {
-            0 => Refusal::EmptyList,
-            _ => Refusal::Length,
+    let mut negative = frames.clone();
+    negative[0] = -1.0;
+    let calls = [
+        (slices::frames_build as Build, Refusal::TotalCount),
+        (slices::frames_build_strict, Refusal::FixedCount),
+    ];
+    for (call, after_the_lengths) in calls {
+        let build = |lengths: [usize; 4], fixed: &[f64]| {
+            let [of_frames, of_fixed, outputs @ ..] = lengths;
+            let sets = [&frames[..of_frames], &fixed[..of_fixed]];
+            let (answer, after) = built(call, 9, sets, 1.0, outputs);
+            answer.map(|()| (f64::from_bits(after.points), after.dropped))
         };
-        if lengths != [of_frames, 0, of_frames, 0] || of_fixed != 0 || of_frames % MOMENTS != 0 {
-            assert_eq!(build(lengths), Err(expected), "{lengths:?}");
+        let without = [3 * MOMENTS, 0, 3 * CENTRED, 0];
+        assert_eq!(build(without, &frames), Ok((3.0, 0)));
+        let right = [3 * MOMENTS, MOMENTS, 3 * CENTRED, CENTRED];
+        assert_eq!(build(right, &frames), Ok((4.0, 0)));
+        // Three points less one are too few, or the count below 0 is refused: after the lengths.
+        assert_eq!(build(right, &negative), Err(after_the_lengths));
+        for lengths in wrong(right) {
+            let expected = match lengths[0] {
+                0 => Refusal::EmptyList,
+                _ if lengths == without => continue,
+                _ => Refusal::Length,
+            };
+            for fixed in [&frames, &negative] {
+                assert_eq!(build(lengths, fixed), Err(expected), "{lengths:?}");
+            }
         }
+        let most = MAX_FRAMES + 1;
+        let too_many = [most * MOMENTS, 0, most * CENTRED, 0];
+        assert_eq!(build(too_many, &frames), Err(Refusal::Length));
     }
-    let most = MAX_FRAMES + 1;
-    assert_eq!(
-        build([most * MOMENTS, 0, most * CENTRED, 0]),
-        Err(Refusal::Length)
-    );
 }
 
 #[test]
