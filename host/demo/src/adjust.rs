@@ -141,7 +141,9 @@ impl Adjustment {
             Way::Moments => {
                 let fixed = moments(known)?;
                 let fixed = (!known.is_empty()).then_some(&fixed);
-                Equations::Moments(FrameFactor::new(DOF as u32, &own, fixed, self.sigma)?)
+                Equations::Moments(FrameFactor::build_strict(
+                    DOF as u32, &own, fixed, self.sigma,
+                )?)
             }
             Way::Points => Equations::Points(RawPlane::new(points, known.clone(), self.sigma)?),
         };
