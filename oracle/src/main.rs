@@ -2,9 +2,9 @@
 
 use oracle::generator::Generator;
 use oracle::groups::{
-    bundle_fit, bundle_linearize, frames_accumulate, frames_build, frames_fit, frames_linearize,
-    lists, match_linearize, matches_accumulate, matches_linearize, moments, moments_plane, number,
-    order, plane_new, remap, root_steps, scatter, sigma, sqrt,
+    bundle_fit, bundle_linearize, frames_accumulate, frames_build, frames_build_strict, frames_fit,
+    frames_linearize, lists, match_linearize, matches_accumulate, matches_linearize, moments,
+    moments_plane, number, order, plane_new, remap, root_steps, scatter, sigma, sqrt,
 };
 use oracle::report::Report;
 use std::collections::BTreeMap;
@@ -74,6 +74,11 @@ const GROUPS: &[Group] = &[
         name: "frames_build",
         about: "building a frame factor against a model",
         run: frames_build::run,
+    },
+    Group {
+        name: "frames_build_strict",
+        about: "building a frame factor by the survey rule against a model and frames_build",
+        run: frames_build_strict::run,
     },
     Group {
         name: "frames_fit",

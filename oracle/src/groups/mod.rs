@@ -7,6 +7,7 @@ pub mod bundle_fit;
 pub mod bundle_linearize;
 pub mod frames_accumulate;
 pub mod frames_build;
+pub mod frames_build_strict;
 pub mod frames_fit;
 pub mod frames_linearize;
 pub mod lists;

@@ -4,8 +4,8 @@ use super::blocks::{bad_word, segment, Target, Work};
 use super::moments::{mean_and_scatter, Decomposition, Moments};
 use super::{
     bad_sigma, congruent, dot, first, matrix, store_matrix, stored_matrix, stored_vector, sum,
-    sum_from_zero, vector, written, Matrix, Vector, ACTIONS, DOF, EMPTY_LIST, FRAME_COUNT, LENGTH,
-    MAP_WORD, MAX_DOF, NOT_FINITE, SEGMENT, SIGMA, TOTAL_COUNT,
+    sum_from_zero, vector, written, Matrix, Vector, ACTIONS, DOF, EMPTY_LIST, FIXED_COUNT,
+    FRAME_COUNT, LENGTH, MAP_WORD, MAX_DOF, NOT_FINITE, SEGMENT, SIGMA, TOTAL_COUNT,
 };
 use maghnelt::{ACTION, CENTRED, DECOMPOSITION, MAX_FRAMES, MOMENTS};
 
@@ -194,7 +194,8 @@ pub fn built(frames: &[Moments], fixed: Option<Moments>) -> Built {
     }
 }
 
-/// The call `frames_build` on frames, fixed, sigma, their outputs and the points, with the dof and `fixed_dropped`.
+/// The call `frames_build` or `frames_build_strict`, by its refusal, on frames, fixed, sigma, their outputs and the points,
+/// with the dof and `fixed_dropped`.
 pub fn build_call(
     refusal: impl Fn(u32, [&[f64]; 2], f64, [usize; 2]) -> u32,
     built: impl Fn(&[Moments], Option<Moments>) -> Built,
@@ -219,30 +220,69 @@ pub fn build_call(
     }
 }
 
+/// The frames' counts of a build.
+fn counts(frames: &[f64]) -> impl Iterator<Item = f64> + '_ {
+    frames.chunks_exact(MOMENTS).map(|record| record[0])
+}
+
+/// Reason 3 of a build, of frames and fixed set and the lengths of both outputs.
+pub fn bad_build([frames, fixed]: [&[f64]; 2], outputs: [usize; 2]) -> bool {
+    let right = [frames, fixed].map(|sets| sets.len() / MOMENTS * CENTRED);
+    bad_frames(frames, MOMENTS) || bad_fixed(fixed, MOMENTS) || outputs != right
+}
+
+/// Reason 13: there is a fixed set, and its count is below 0.
+pub fn bad_fixed_count(fixed: &[f64]) -> bool {
+    fixed.first().is_some_and(|&count| count < 0.0)
+}
+
+/// Reason 4: a frame's count is at or below 0.
+pub fn bad_frame_count(frames: &[f64]) -> bool {
+    counts(frames).any(|count| count <= 0.0)
+}
+
+/// The points of all sets that are handed in.
+pub fn total([frames, fixed]: [&[f64]; 2]) -> f64 {
+    sum(counts(frames)) + fixed.first().unwrap_or(&0.0)
+}
+
+/// The points of the sets that are kept: all but a fixed set of count at or below 0. One of a NaN count is kept.
+pub fn kept_total([frames, fixed]: [&[f64]; 2]) -> f64 {
+    let dropped = |count: f64| count <= 0.0;
+    let kept = fixed.first().copied().filter(|&count| !dropped(count));
+    sum(counts(frames).chain(kept))
+}
+
+/// Reason 6: a moment is not finite.
+pub fn bad_moments(sets: [&[f64]; 2]) -> bool {
+    sets.concat().iter().any(|x| !x.is_finite())
+}
+
 /// Why a build is refused: tests 1 to 7, of dof, frames and fixed set, sigma, and the lengths of both outputs.
-pub fn build_refusal(
-    dof: u32,
-    [frames, fixed]: [&[f64]; 2],
-    sigma: f64,
-    outputs: [usize; 2],
-) -> u32 {
-    let records = || frames.chunks_exact(MOMENTS);
-    let right = [
-        frames.len() / MOMENTS * CENTRED,
-        fixed.len() / MOMENTS * CENTRED,
-    ];
-    let lengths = bad_frames(frames, MOMENTS) || bad_fixed(fixed, MOMENTS) || outputs != right;
-    let total = sum(records().map(|record| record[0])) + fixed.first().unwrap_or(&0.0);
+pub fn build_refusal(dof: u32, sets: [&[f64]; 2], sigma: f64, outputs: [usize; 2]) -> u32 {
+    let [frames, _] = sets;
     first(&[
         (DOF, dof > MAX_DOF),
         (EMPTY_LIST, frames.is_empty()),
-        (LENGTH, lengths),
-        (FRAME_COUNT, records().any(|record| record[0] <= 0.0)),
-        (TOTAL_COUNT, total < 3.0),
-        (
-            NOT_FINITE,
-            [frames, fixed].concat().iter().any(|x| !x.is_finite()),
-        ),
+        (LENGTH, bad_build(sets, outputs)),
+        (FRAME_COUNT, bad_frame_count(frames)),
+        (TOTAL_COUNT, total(sets) < 3.0),
+        (NOT_FINITE, bad_moments(sets)),
+        (SIGMA, bad_sigma(sigma)),
+    ])
+}
+
+/// Why a build is refused by the survey rule: tests 1, 2, 3, 13, 4, 5, 6, 7.
+pub fn strict_refusal(dof: u32, sets: [&[f64]; 2], sigma: f64, outputs: [usize; 2]) -> u32 {
+    let [frames, fixed] = sets;
+    first(&[
+        (DOF, dof > MAX_DOF),
+        (EMPTY_LIST, frames.is_empty()),
+        (LENGTH, bad_build(sets, outputs)),
+        (FIXED_COUNT, bad_fixed_count(fixed)),
+        (FRAME_COUNT, bad_frame_count(frames)),
+        (TOTAL_COUNT, kept_total(sets) < 3.0),
+        (NOT_FINITE, bad_moments(sets)),
         (SIGMA, bad_sigma(sigma)),
     ])
 }
@@ -709,36 +749,81 @@ mod tests {
         }
     }
 
+    /// A record of this count.
+    fn counted(count: f64) -> [f64; MOMENTS] {
+        let mut record = [0.0; MOMENTS];
+        record[0] = count;
+        record
+    }
+
+    /// What a frame and a fixed set of these counts are built to.
+    fn built_of(frame: f64, fixed: f64) -> Built {
+        let [frame, fixed] = [frame, fixed].map(|count| Moments::read(&counted(count)));
+        built(&[frame], Some(fixed))
+    }
+
     #[test]
     fn counts_of_a_build() {
-        let record = |count: f64| {
-            let mut record = [0.0; MOMENTS];
-            record[0] = count;
-            record
-        };
         let refusal = |frames: &[f64], fixed: &[f64]| {
             build_refusal(6, [frames, fixed], 1.0, [frames.len(), fixed.len()])
         };
         // Worked cases h, i and j.
-        assert_eq!(refusal(&record(5.0), &record(-1.0)), 0);
-        assert_eq!(refusal(&record(5.0), &record(-3.0)), TOTAL_COUNT);
-        assert_eq!(refusal(&record(2.0), &record(1.0)), 0);
-        assert_eq!(refusal(&record(2.0), &record(0.5)), TOTAL_COUNT);
-        assert_eq!(refusal(&record(-0.0), &record(9.0)), FRAME_COUNT);
-        assert_eq!(refusal(&record(f64::NAN), &[]), NOT_FINITE);
+        assert_eq!(refusal(&counted(5.0), &counted(-1.0)), 0);
+        assert_eq!(refusal(&counted(5.0), &counted(-3.0)), TOTAL_COUNT);
+        assert_eq!(refusal(&counted(2.0), &counted(1.0)), 0);
+        assert_eq!(refusal(&counted(2.0), &counted(0.5)), TOTAL_COUNT);
+        assert_eq!(refusal(&counted(-0.0), &counted(9.0)), FRAME_COUNT);
+        assert_eq!(refusal(&counted(f64::NAN), &[]), NOT_FINITE);
         assert_eq!(
-            refusal(&record(f64::INFINITY), &record(f64::NEG_INFINITY)),
+            refusal(&counted(f64::INFINITY), &counted(f64::NEG_INFINITY)),
             NOT_FINITE
         );
         assert_eq!(
-            refusal(&record(5.0), &record(f64::NEG_INFINITY)),
+            refusal(&counted(5.0), &counted(f64::NEG_INFINITY)),
             TOTAL_COUNT
         );
-        let built = built(
-            &[Moments::read(&record(5.0))],
-            Some(Moments::read(&record(-1.0))),
-        );
+        let built = built_of(5.0, -1.0);
         assert_eq!(built.points, 5.0);
         assert!(built.dropped);
+    }
+
+    #[test]
+    fn counts_of_a_strict_build() {
+        let refusal = |frame: f64, fixed: f64| {
+            let [frame, fixed] = [frame, fixed].map(counted);
+            strict_refusal(6, [&frame, &fixed], 1.0, [CENTRED; 2])
+        };
+        for below in [-5e-324, -1.0, -3.0, f64::NEG_INFINITY] {
+            assert_eq!(refusal(5.0, below), FIXED_COUNT, "{below}");
+        }
+        // A dropped set adds nothing.
+        for nothing in [0.0, -0.0] {
+            assert_eq!(refusal(5.0, nothing), 0);
+            assert_eq!(refusal(3.0, nothing), 0);
+            assert_eq!(refusal(2.0, nothing), TOTAL_COUNT);
+            let built = built_of(5.0, nothing);
+            assert_eq!(built.points, 5.0);
+            assert!(built.dropped);
+        }
+        assert_eq!(refusal(2.0, 0.5), TOTAL_COUNT);
+        assert_eq!(refusal(2.0, 1.0), 0);
+        assert_eq!(built_of(2.0, 1.0).points, 3.0);
+        // A NaN is neither below 0 nor dropped, so that the total is a NaN too.
+        for not_finite in [f64::NAN, -f64::NAN, f64::INFINITY] {
+            assert_eq!(refusal(2.0, not_finite), NOT_FINITE, "{not_finite}");
+        }
+    }
+
+    #[test]
+    fn the_fixed_count_is_tested_after_the_lengths_and_before_the_counts() {
+        let [frame, fixed] = [-1.0; 2].map(counted);
+        let refusal = |dof: u32, frames: &[f64], outputs: [usize; 2]| {
+            strict_refusal(dof, [frames, &fixed], 0.0, outputs)
+        };
+        assert_eq!(refusal(6, &frame, [CENTRED; 2]), FIXED_COUNT);
+        assert_eq!(refusal(10, &frame, [CENTRED; 2]), DOF);
+        assert_eq!(refusal(6, &[], [0, CENTRED]), EMPTY_LIST);
+        assert_eq!(refusal(6, &frame, [CENTRED, CENTRED - 1]), LENGTH);
+        assert_eq!(refusal(6, &frame, [CENTRED + 1, CENTRED]), LENGTH);
     }
 }

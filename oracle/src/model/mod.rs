@@ -34,6 +34,8 @@ pub const SEGMENT: u32 = 10;
 pub const NORMAL: u32 = 11;
 /// The reason for a variance that is not finite and positive.
 pub const VARIANCE: u32 = 12;
+/// The reason for a fixed count below 0 in a strict build.
+pub const FIXED_COUNT: u32 = 13;
 
 /// The most columns of an action's derivatives.
 pub const MAX_DOF: u32 = 9;
