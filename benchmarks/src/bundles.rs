@@ -198,10 +198,8 @@ fn measure_rows<const WIDTH: usize>(case: &str, handed: &[OfWidth<WIDTH>], cells
 /// the library's are. An error is the number of the reason to refuse.
 mod plain {
     use super::Point;
+    use crate::finite::all_finite;
     use maghnelt::{DECOMPOSITION, MAX_FRAMES, MAX_POINTS};
-
-    /// Numbers that are tested at once.
-    const GROUP: usize = 8;
 
     #[inline(never)]
     pub fn fit(counts: &[u32], points: &[f64], fixed: &[f64], out: &mut [f64]) -> Result<(), u32> {
@@ -290,13 +288,6 @@ mod plain {
             return Err(6);
         }
         Ok(())
-    }
-
-    #[inline(always)]
-    fn all_finite(numbers: &[f64]) -> bool {
-        let finite = |group: &[f64]| group.iter().fold(true, |all, x| all & x.is_finite());
-        let (groups, rest) = numbers.as_chunks::<GROUP>();
-        groups.iter().all(|group| finite(group)) && finite(rest)
     }
 
     #[inline(always)]

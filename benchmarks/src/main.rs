@@ -1,8 +1,10 @@
 //! Times the proved library against plain Rust, and points against moments, and prints Markdown tables.
 
 mod block_map;
+mod builds;
 mod bundles;
 mod crossover;
+mod finite;
 mod fit;
 mod frames;
 mod harness;
@@ -23,6 +25,7 @@ const SUBJECTS: &[Subject] = &[
     ("moments", moments::measure_all),
     ("plane", plane::measure_all),
     ("block_map", block_map::measure_all),
+    ("builds", builds::measure_all),
     ("fit", fit::measure_all),
     ("frames", frames::measure_all),
     ("matches", matches::measure_all),

@@ -11,7 +11,8 @@ const RECORDS: usize = 256;
 const FEW: usize = 64;
 const LISTS: usize = 16;
 
-type Record = [f64; MOMENTS];
+/// The moments of a set.
+pub type Record = [f64; MOMENTS];
 
 /// A record and an affine map: a matrix by its columns, and a shift.
 struct Move {
@@ -120,7 +121,7 @@ fn measure_mean_and_scatter(generator: &mut Generator) {
 
 /// The same in plain Rust: the compiler knows every length and inlines all below the outermost functions, which are
 /// called as the library's are.
-mod plain {
+pub mod plain {
     use super::{Record, MOMENTS};
 
     /// Where the sum and the outer products are in a record, after the count.
@@ -189,26 +190,35 @@ mod plain {
 
     #[inline(never)]
     pub fn mean_and_scatter(moments: &Record, out: &mut [f64; 12]) -> bool {
-        let count = moments[0];
-        if count <= 0.0 {
+        if moments[0] <= 0.0 {
             return false;
         }
+        let (mean, scatter) = mean_and_scatter_of(moments);
+        out[..3].copy_from_slice(&mean);
+        out[3..].copy_from_slice(&scatter);
+        true
+    }
+
+    /// Of a count above 0.
+    #[inline(always)]
+    pub fn mean_and_scatter_of(moments: &Record) -> ([f64; 3], [f64; 9]) {
+        let count = moments[0];
         let mut mean = [0.0; 3];
         for r in 0..3 {
             mean[r] = moments[SUM + r] / count;
         }
+        let mut spread = [0.0; 9];
+        for c in 0..3 {
+            for r in 0..3 {
+                spread[3 * c + r] = moments[OUTER + 3 * c + r] / count - mean[r] * mean[c];
+            }
+        }
         let mut scatter = [0.0; 9];
         for c in 0..3 {
             for r in 0..3 {
-                scatter[3 * c + r] = moments[OUTER + 3 * c + r] / count - mean[r] * mean[c];
+                scatter[3 * c + r] = (spread[3 * c + r] + spread[3 * r + c]) * 0.5;
             }
         }
-        out[..3].copy_from_slice(&mean);
-        for c in 0..3 {
-            for r in 0..3 {
-                out[3 + 3 * c + r] = (scatter[3 * c + r] + scatter[3 * r + c]) * 0.5;
-            }
-        }
-        true
+        (mean, scatter)
     }
 }
