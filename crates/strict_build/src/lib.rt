@@ -17,8 +17,8 @@ fn is_negative(fixed: &[f64]) -> bool
     count < 0.0
 }
 
-// The host's call: 1, 2 and 3, then 13, then all else as the build does it. Behind 13 a set that is dropped has the count 0 or -0, and to add that changes no
-// test of the total. The number of the reason to refuse, or 0.
+// The host's call: 1, 2 and 3, then 13, then all else as the build does it. Where 13 does not apply, a set that is dropped has the count 0 or -0, and adding
+// that changes no comparison of the total (`same-test`). The number of the reason to refuse, or 0.
 pub fn build_strict(
     dof: u32,
     frames: &[f64],
