@@ -1,25 +1,30 @@
 // Calls of the exported functions, one after the other. What is proved of them comes from the exported contracts alone: accumulating calls make the chain that
 // demand 3 speaks of, and leave what it says; the two builds agree where the survey rule does not refuse.
 use maghnelt::maghnelt_frames_accumulate;
+use maghnelt::maghnelt_frames_accumulate_transformed;
 use maghnelt::maghnelt_frames_build;
 use maghnelt::maghnelt_frames_build_strict;
 use maghnelt::maghnelt_matches_accumulate;
+use maghnelt::maghnelt_matches_accumulate_transformed;
 ghost use mathlib.Core.List.{[], _∷_};
+ghost use Rattle.block_transforms.specs.Transform.{without};
 ghost use Rattle.plane_moments.specs.Accumulate.{work};
 ghost use Rattle.plane_moments.specs.Build.{outputs};
 ghost use Rattle.normal_list.specs.Work.{framesMade, matchesMade};
 ghost use Rattle.exported_calls.specs.Row.{InARow};
 ghost use Rattle.exported_calls.specs.Builds.{Agree};
 
-// What three calls return.
+// What four calls return.
 pub struct Numbers {
     pub first: u32,
     pub second: u32,
     pub third: u32,
+    pub fourth: u32,
 }
 
-// A plane's frames, a match list, and the frames once more under another decomposition and another map.
-pub fn three_calls(
+// Each accumulating call once: a plane's frames, a match list through a transform, the frames under another decomposition and another map through transforms,
+// and the match list as it is.
+pub fn four_calls(
     dof: u32,
     frames: &[f64],
     fixed: &[f64],
@@ -30,15 +35,20 @@ pub fn three_calls(
     matches: &[f64],
     action: &[f64],
     place: &[u32],
+    shape: &[u32],
+    transform: &[f64],
     refitted: &[u64],
     remapped: &[u32],
+    shapes: &[u32],
+    transforms: &[f64],
     hessian: &mut [f64],
     gradient: &mut [f64],
     first: &mut f64,
     second: &mut f64,
     third: &mut f64,
+    fourth: &mut f64,
 ) -> Numbers
-    ensures { λ r. ⌜ InARow (now (hessian .entry)) (now (gradient .entry)) (framesMade (work dof (now (frames .entry)) (now (fixed .entry)) sigma (now (actions .entry)) (now (fitted .entry)) (now (map .entry))) (r .first) (now (first .exit)) ∷ matchesMade (record { dof = dof; matches = now (matches .entry); action = now (action .entry); map = now (place .entry) }) (r .second) (now (second .exit)) ∷ framesMade (work dof (now (frames .entry)) (now (fixed .entry)) sigma (now (actions .entry)) (now (refitted .entry)) (now (remapped .entry))) (r .third) (now (third .exit)) ∷ []) (now (first .entry) ∷ now (second .entry) ∷ now (third .entry) ∷ []) (now (hessian .exit)) (now (gradient .exit)) ⌝ }
+    ensures { λ r. ⌜ InARow (now (hessian .entry)) (now (gradient .entry)) (framesMade (without (work dof (now (frames .entry)) (now (fixed .entry)) sigma (now (actions .entry)) (now (fitted .entry)) (now (map .entry)))) (r .first) (now (first .exit)) ∷ matchesMade (record { work = record { dof = dof; matches = now (matches .entry); action = now (action .entry); map = now (place .entry) }; shapes = now (shape .entry); transforms = now (transform .entry) }) (r .second) (now (second .exit)) ∷ framesMade (record { work = work dof (now (frames .entry)) (now (fixed .entry)) sigma (now (actions .entry)) (now (refitted .entry)) (now (remapped .entry)); shapes = now (shapes .entry); transforms = now (transforms .entry) }) (r .third) (now (third .exit)) ∷ matchesMade (without (record { dof = dof; matches = now (matches .entry); action = now (action .entry); map = now (place .entry) })) (r .fourth) (now (fourth .exit)) ∷ []) (now (first .entry) ∷ now (second .entry) ∷ now (third .entry) ∷ now (fourth .entry) ∷ []) (now (hessian .exit)) (now (gradient .exit)) ⌝ }
 {
     let one = maghnelt_frames_accumulate(
         dof,
@@ -52,8 +62,18 @@ pub fn three_calls(
         gradient,
         first,
     );
-    let two = maghnelt_matches_accumulate(dof, matches, action, place, hessian, gradient, second);
-    let three = maghnelt_frames_accumulate(
+    let two = maghnelt_matches_accumulate_transformed(
+        dof,
+        matches,
+        action,
+        place,
+        shape,
+        transform,
+        hessian,
+        gradient,
+        second,
+    );
+    let three = maghnelt_frames_accumulate_transformed(
         dof,
         frames,
         fixed,
@@ -61,14 +81,18 @@ pub fn three_calls(
         actions,
         refitted,
         remapped,
+        shapes,
+        transforms,
         hessian,
         gradient,
         third,
     );
+    let four = maghnelt_matches_accumulate(dof, matches, action, place, hessian, gradient, fourth);
     Numbers {
         first: one,
         second: two,
         third: three,
+        fourth: four,
     }
 }
 

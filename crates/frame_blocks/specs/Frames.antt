@@ -103,11 +103,15 @@ pub record Continues (order : ℕ) (call batch : Frames) (costs costs′ : ℕ �
   pub gradient : (k : ℕ) → k < size → frameGradient batch k ≡ frameGradient call (from + k)
   pub cost : (k : ℕ) → k < size → costs′ k ≡ costs (from + k)
 
--- all frames with the fixed set
-pub record AllAdded (order dof : ℕ) (frames fixed actions : List Float) (map : List ℕ) (n : List Float) (offset weight r : Float) (h h′ g g′ : List Float) : Type 0 where
+-- all of them, f being a call's frames as they are added, and the fixed set
+pub record FramesAdded (order : ℕ) (f : Frames) (frames fixed actions n : List Float) (offset weight r : Float) (h h′ g g′ : List Float) : Type 0 where
   pub cost : r ≡ framesCost frames fixed actions n offset weight
-  pub hessian : h′ ≡ addAll h (upto (frameCount frames) (frameHessian order (framesUnder dof frames actions map n offset weight)))
-  pub gradient : g′ ≡ addAll g (upto (frameCount frames) (frameGradient (framesUnder dof frames actions map n offset weight)))
+  pub hessian : h′ ≡ addAll h (upto (frameCount frames) (frameHessian order f))
+  pub gradient : g′ ≡ addAll g (upto (frameCount frames) (frameGradient f))
+
+abbrev pub AllAdded : ℕ → ℕ → List Float → List Float → List Float → List ℕ → List Float → Float → Float → Float → List Float → List Float → List Float → List Float → Type 0
+AllAdded order dof frames fixed actions map n offset weight r h h′ g g′ =
+    FramesAdded order (framesUnder dof frames actions map n offset weight) frames fixed actions n offset weight r h h′ g g′
 
 -- ---- laws
 
@@ -149,6 +153,17 @@ module _ (order : ℕ) (f : Frames) (costs : ℕ → Float) where
     gradient = added .gradient ∙ upto-joined g₀ g _ _ from size (before .gradient) (same .gradient);
   }
 
+-- all frames of a call, and the fixed set
+pub all-added : (order : ℕ) (f : Frames) (frames actions n : List Float) (offset weight : Float) (fixed : List Float) (count : ℕ) (s r : Float) (h h′ g g′ : List Float) → count ≡ frameCount frames
+    → r ≡ andFixed fixed (λ f. fixedCost f n offset weight) s → FirstAdded order f (costAt frames actions n offset weight) count zeroF s h h′ g g′
+    → FramesAdded order f frames fixed actions n offset weight r h h′ g g′
+unfolding framesCost
+all-added order f frames actions n offset weight fixed count s r h h′ g g′ e q a = record {
+  cost = q ∙ ap (andFixed fixed (λ f. fixedCost f n offset weight)) (rw e at (a .cost));
+  hessian = rw e at (a .hessian);
+  gradient = rw e at (a .gradient);
+}
+
 module _ (order dof : ℕ) (frames actions : List Float) (map : List ℕ) where
   -- what a call that is ready has at each frame, the two slices being as long as they were
   module _ (cells : ℕ) (ready : Ready cells order dof frames actions map) where
@@ -178,20 +193,10 @@ module _ (order dof : ℕ) (frames actions : List Float) (map : List ℕ) where
         rw (add-one k) at (first-more order all _ k (lookup map k) (all .block k) (all .vector k) _ zeroF _ h h h g g g refl (λ i j li lj. refl) (λ i li. refl) refl
         (hessian-unmapped dof (lookup map k) nowhere order (all .block k) h) (gradient-unmapped dof (lookup map k) nowhere (all .vector k) g) (summed-unmapped k h g e))
 
-    -- all of them, and the fixed set
-    pub all-added : (fixed : List Float) (count : ℕ) (s r : Float) (h h′ g g′ : List Float) → count ≡ frameCount frames → r ≡ andFixed fixed (λ f. fixedCost f n offset weight) s
-        → Summed order dof frames actions map n offset weight count s h h′ g g′ → AllAdded order dof frames fixed actions map n offset weight r h h′ g g′
-    unfolding framesCost
-    all-added fixed count s r h h′ g g′ e q a = record {
-      cost = q ∙ ap (andFixed fixed (λ f. fixedCost f n offset weight)) (rw e at (a .cost));
-      hessian = rw e at (a .hessian);
-      gradient = rw e at (a .gradient);
-    }
-
     pub all-alone : (fixed : List Float) (count : ℕ) (s r : Float) (h g : List Float) → count ≡ frameCount frames → length map ≡ 0
         → s ≡ sumFromZero count (costAt frames actions n offset weight) → r ≡ andFixed fixed (λ f. fixedCost f n offset weight) s
         → AllAdded order dof frames fixed actions map n offset weight r h h g g
-    all-alone fixed count s r h g e none q p = all-added fixed count s r h h g g e p (rw q (summed-unmapped count h g none))
+    all-alone fixed count s r h g e none q p = all-added order _ frames actions n offset weight fixed count s r h h g g e p (rw q (summed-unmapped count h g none))
 
   -- a batch by its pulls: one frame more, and the call's frames with it
   module _ (n : List Float) (weight : Float) (cells : List Float) (from size : ℕ) where

@@ -8,16 +8,17 @@ ghost use Rattle.moment_lists.specs.Calls.{FromPoints, Pushes, Merges, Transfor
 ghost use Rattle.plane_lists.specs.Calls.{newRefusal, newPlane, SigmaAnswered};
 ghost use Rattle.normal_blocks.specs.Map.{remapped};
 ghost use Rattle.normal_blocks.specs.Calls.{remapRefusal};
+ghost use Rattle.transform_maps.specs.Multiply.{Multiplied};
 ghost use Rattle.plane_fit.specs.Fit.{fitList};
 ghost use Rattle.plane_fit.specs.Calls.{fitRefusal};
 ghost use Rattle.plane_moments.specs.Build.{Builds};
 ghost use Rattle.strict_build.specs.Strict.{BuildsStrictly};
-ghost use Rattle.plane_moments.specs.Accumulate.{framesCall, work};
+ghost use Rattle.plane_moments.specs.Accumulate.{framesCall, transformedFramesCall, work};
 ghost use Rattle.plane_moments.specs.Linearize.{Linearizes};
 ghost use Rattle.plane_bundle.specs.Fit.{Fits};
 ghost use Rattle.plane_bundle.specs.Linearize.{Linearizes as BundleLinearizes};
 ghost use Rattle.call_lists.specs.Accumulated.{Accumulated};
-ghost use Rattle.map_planes.specs.Accumulate.{matchesCall};
+ghost use Rattle.map_planes.specs.Accumulate.{matchesCall, transformedMatchesCall};
 ghost use Rattle.map_planes.specs.Linearize.{Linearized};
 ghost use Rattle.map_plane.specs.Linearize.{Linearized as OneLinearized};
 
@@ -139,6 +140,34 @@ pub extern "C" fn maghnelt_remap(map: &[u32], list: &[u32], out: &mut [u32]) -> 
     normal_blocks::remap(map, list, out)
 }
 
+// A further transform multiplies that of one word of a map, from the left.
+#[no_mangle]
+pub extern "C" fn maghnelt_transform(
+    dof: u32,
+    map: &[u32],
+    shapes: &[u32],
+    transforms: &[f64],
+    place: u32,
+    further_shape: &[u32],
+    further: &[f64],
+    out_shapes: &mut [u32],
+    out_transforms: &mut [f64],
+) -> u32
+    ensures { λ r. ⌜ Multiplied (record { dof = dof; map = now (map .entry); shapes = now (shapes .entry); transforms = now (transforms .entry); place = place; further-shape = now («further_shape» .entry); further = now (further .entry) }) r (now («out_shapes» .entry)) (now («out_transforms» .entry)) (now («out_shapes» .exit)) (now («out_transforms» .exit)) ⌝ }
+{
+    transform_maps::transform(
+        dof,
+        map,
+        shapes,
+        transforms,
+        place,
+        further_shape,
+        further,
+        out_shapes,
+        out_transforms,
+    )
+}
+
 // The frames of a plane and its fixed set centred, the point total, and whether the fixed set was dropped.
 #[no_mangle]
 pub extern "C" fn maghnelt_frames_build(
@@ -235,6 +264,40 @@ pub extern "C" fn maghnelt_frames_accumulate(
     )
 }
 
+// The same through transforms that lie beside the map.
+#[no_mangle]
+pub extern "C" fn maghnelt_frames_accumulate_transformed(
+    dof: u32,
+    frames: &[f64],
+    fixed: &[f64],
+    sigma: f64,
+    actions: &[f64],
+    decomposition: &[u64],
+    map: &[u32],
+    shapes: &[u32],
+    transforms: &[f64],
+    hessian: &mut [f64],
+    gradient: &mut [f64],
+    cost: &mut f64,
+) -> u32
+    ensures { λ r. ⌜ Accumulated (transformedFramesCall (length (now (hessian .entry))) (length (now (gradient .entry))) (record { work = work dof (now (frames .entry)) (now (fixed .entry)) sigma (now (actions .entry)) (now (decomposition .entry)) (now (map .entry)); shapes = now (shapes .entry); transforms = now (transforms .entry) })) (now (hessian .entry)) (now (gradient .entry)) (now (cost .entry)) r (now (hessian .exit)) (now (gradient .exit)) (now (cost .exit)) ⌝ }
+{
+    transformed_frames::accumulate::accumulate(
+        dof,
+        frames,
+        fixed,
+        sigma,
+        actions,
+        decomposition,
+        map,
+        shapes,
+        transforms,
+        hessian,
+        gradient,
+        cost,
+    )
+}
+
 // Four residuals for each frame and the fixed set, and their Jacobian by columns.
 #[no_mangle]
 pub extern "C" fn maghnelt_frames_linearize(
@@ -316,6 +379,34 @@ pub extern "C" fn maghnelt_matches_accumulate(
     ensures { λ r. ⌜ Accumulated (matchesCall (length (now (hessian .entry))) (length (now (gradient .entry))) (record { dof = dof; matches = now (matches .entry); action = now (action .entry); map = now (map .entry) })) (now (hessian .entry)) (now (gradient .entry)) (now (cost .entry)) r (now (hessian .exit)) (now (gradient .exit)) (now (cost .exit)) ⌝ }
 {
     map_planes::accumulate(dof, matches, action, map, hessian, gradient, cost)
+}
+
+// The same through the transform of word 0.
+#[no_mangle]
+pub extern "C" fn maghnelt_matches_accumulate_transformed(
+    dof: u32,
+    matches: &[f64],
+    action: &[f64],
+    map: &[u32],
+    shapes: &[u32],
+    transforms: &[f64],
+    hessian: &mut [f64],
+    gradient: &mut [f64],
+    cost: &mut f64,
+) -> u32
+    ensures { λ r. ⌜ Accumulated (transformedMatchesCall (length (now (hessian .entry))) (length (now (gradient .entry))) (record { work = record { dof = dof; matches = now (matches .entry); action = now (action .entry); map = now (map .entry) }; shapes = now (shapes .entry); transforms = now (transforms .entry) })) (now (hessian .entry)) (now (gradient .entry)) (now (cost .entry)) r (now (hessian .exit)) (now (gradient .exit)) (now (cost .exit)) ⌝ }
+{
+    transformed_matches::accumulate(
+        dof,
+        matches,
+        action,
+        map,
+        shapes,
+        transforms,
+        hessian,
+        gradient,
+        cost,
+    )
 }
 
 // The residual of each match, and their Jacobian by columns.

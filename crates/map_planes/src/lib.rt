@@ -74,7 +74,7 @@ pub fn matches_refusal(dof: u32, list: &[f64], misfit: bool, action: &[f64]) -> 
 }
 
 // Adds the list's block and vector at the place of word 0, and gives its cost. An unmapped list has its cost summed alone.
-fn add_list(
+pub fn add_list(
     width: usize,
     list: &[f64],
     x: &[f64],

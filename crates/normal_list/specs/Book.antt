@@ -9,6 +9,7 @@ use Rattle.call_lists.specs.Lists.{Pairs}
 use Rattle.call_lists.specs.Segments.{Layout, Segment, segmentsOf, HasRow, HasCell, Disjoint}
 use Rattle.call_lists.specs.Calls.{Answer, refusal, cost}
 use Rattle.call_lists.specs.Frames.{Frames, hessianCell, gradientCell}
+use Rattle.block_transforms.specs.Transform.{Beside, shapeAt, layoutThrough}
 use Rattle.plane_fit.specs.Fit.{frameCount}
 use Rattle.plane_fit.specs.declared.axis.Fit.{Fit}
 use Rattle.plane_fit.specs.declared.axis.Fit.the-variants.{Plane, NoPlane}
@@ -19,12 +20,13 @@ use Rattle.normal_list.specs.Work.{Work, frames, matches, refusalOf}
 
 -- ---- what a call owns, with a Hessian of m cells and a gradient of n
 
--- where its frames go: frame k as word k of the map says, dof rows wide; "a match list is frame 0"
+-- where its frames go: frame k as word k of the map says; "a match list is frame 0". "A mapped frame's segment is the dof rows from its offset";
+-- "A segment is from then on as wide as its transform"
 abbrev pub layoutOf : Work → Layout
-layoutOf (frames w) = record { count = frameCount (w .frames); place = lookup (w .map); width = λ k. w .dof }
-layoutOf (matches w) = record { count = 1; place = lookup (w .map); width = λ k. w .dof }
+layoutOf (frames b) = layoutThrough (shapeAt (b .shapes)) (record { count = frameCount (b .work .frames); place = lookup (b .work .map); width = λ k. b .work .dof })
+layoutOf (matches b) = layoutThrough (shapeAt (b .shapes)) (record { count = 1; place = lookup (b .work .map); width = λ k. b .work .dof })
 
--- "A mapped frame's segment is the dof rows from its offset"; a refused call has none
+-- a refused call has no segments
 abbrev pub unlessRefused : ℕ → List Segment → List Segment
 unlessRefused zero ss = ss
 unlessRefused (suc k) ss = []
@@ -59,14 +61,14 @@ abbrev pub entered : Float → Frames → Page
 entered x f = record { answer = cost x; hessian = hessianCell f (f .layout .count); gradient = gradientCell f (f .layout .count) }
 
 -- "Accepted frames: the cost by the steps above; then, frame after frame, each term"; "No plane: cost 0, no cell changed"
-abbrev pub framesPage : FramesWork → Fit → Page
-framesPage w (Plane a b c offset) = entered (costUnder w (a ∷ b ∷ c ∷ []) offset) (framesOf w (a ∷ b ∷ c ∷ []) offset)
-framesPage w NoPlane = unchanged (cost zeroF)
+abbrev pub framesPage : Beside FramesWork → Fit → Page
+framesPage b (Plane u v w offset) = entered (costUnder (b .work) (u ∷ v ∷ w ∷ []) offset) (framesOf b (u ∷ v ∷ w ∷ []) offset)
+framesPage b NoPlane = unchanged (cost zeroF)
 
 -- "Accepted matches: likewise as one frame, summed by groups"
 abbrev pub acceptedPage : Work → Page
-acceptedPage (frames w) = framesPage w (fitOf w)
-acceptedPage (matches w) = entered (listCost (w .action) (w .matches)) (map_planes.framesOf w)
+acceptedPage (frames b) = framesPage b (fitOf (b .work))
+acceptedPage (matches b) = entered (listCost (b .work .action) (b .work .matches)) (map_planes.framesOf b)
 
 -- "A refused call: its number, no cell changed"
 abbrev pub judgedPage : ℕ → Page → Page

@@ -1,4 +1,4 @@
--- DEMAND 3: what a call owns, and what any list of accumulating calls of both factors, refused ones included, does to one Hessian and one gradient.
+-- DEMAND 3: what a call owns, and what any list of accumulating calls of both factors, with transforms and without, refused ones included, does to one Hessian and one gradient.
 -- Definitions only.
 use Prim.Native.Nat.{ℕ, suc, _+_, _*_, _<_, _≤_}
 use mathlib.Core.Path.{_≡_}
@@ -11,37 +11,38 @@ use Rattle.normal_blocks.specs.declared.Place.the-variants.{At}
 use Rattle.call_lists.specs.Lists.{In}
 use Rattle.call_lists.specs.Calls.{refusal, Made, works, Chain}
 use Rattle.plane_fit.specs.declared.axis.Fit.the-variants.{NoPlane}
-use Rattle.plane_moments.specs.Accumulate.{framesRefusal, fitOf}
+use Rattle.block_transforms.specs.Transform.{shapeAt, widthAt}
+use Rattle.plane_moments.specs.Accumulate.{transformedFramesRefusal, fitOf}
 use Rattle.normal_list.specs.Work.{Work, frames, matches, callOf, Got, answerOf}
 use Rattle.normal_list.specs.Book.{layoutOf, OwnsRow, OwnsCell, Apart, pageOf, hessianBook, gradientBook}
 
 -- ---- what a call owns, in the paper's words
 
--- row i is one of the dof rows from the offset
+-- row i is one of so many rows from the offset on
 abbrev pub Among : ℕ → ℕ → ℕ → Type 0
-Among offset dof i = (offset ≤ i) × (i < offset + dof)
+Among offset width i = (offset ≤ i) × (i < offset + width)
 
--- one of the first `count` frames is mapped, and row i is among its rows
-pub record InFrame (count dof : ℕ) (map : List ℕ) (i : ℕ) : Type 0 where
+-- one of the first `count` frames is mapped, and row i is among its rows: as many as its transform has columns, dof without one
+pub record InFrame (count dof : ℕ) (map shapes : List ℕ) (i : ℕ) : Type 0 where
   pub frame : ℕ
   pub exists : frame < count
   pub offset : ℕ
   pub mapped : lookup map frame ≡ At offset
-  pub row : Among offset dof i
+  pub row : Among offset (widthAt (shapeAt shapes) dof frame) i
 
 -- and so is column j
-pub record InOneFrame (count dof : ℕ) (map : List ℕ) (i j : ℕ) : Type 0 where
+pub record InOneFrame (count dof : ℕ) (map shapes : List ℕ) (i j : ℕ) : Type 0 where
   pub frame : ℕ
   pub exists : frame < count
   pub offset : ℕ
   pub mapped : lookup map frame ≡ At offset
-  pub row : Among offset dof i
-  pub column : Among offset dof j
+  pub row : Among offset (widthAt (shapeAt shapes) dof frame) i
+  pub column : Among offset (widthAt (shapeAt shapes) dof frame) j
 
 abbrev pub Exactly : Type 0 → Type 0 → Type 0
 Exactly A B = (A → B) × (B → A)
 
--- WHAT A HOST LOOKS AT, word by word: no row is among the rows of a mapped frame of one call and among those of a mapped frame of the other
+-- WHAT A HOST LOOKS AT, words and shapes: no row is among the rows of a mapped frame of one call and among those of a mapped frame of the other
 abbrev pub WordsApart : Work → Work → Type 0
 WordsApart v w =
     (k l o p i : ℕ) → k < layoutOf v .count → l < layoutOf w .count → layoutOf v .place k ≡ At o → layoutOf w .place l ≡ At p
@@ -89,5 +90,5 @@ pub record Demand3 (h g : List Float) (es : List (Made Work Got)) (h′ g′ : L
 
 -- an accepted call of frames without plane
 abbrev pub WithoutPlane : ℕ → ℕ → Work → Type 0
-WithoutPlane m n (frames w) = (framesRefusal m n w ≡ 0) × (fitOf w ≡ NoPlane)
-WithoutPlane m n (matches w) = ⊥
+WithoutPlane m n (frames b) = (transformedFramesRefusal m n b ≡ 0) × (fitOf (b .work) ≡ NoPlane)
+WithoutPlane m n (matches b) = ⊥

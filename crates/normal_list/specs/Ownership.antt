@@ -9,8 +9,9 @@ use Rattle.call_lists.specs.ListLaws.{pairs-imp}
 use Rattle.call_lists.specs.Segments.{Segment, segmentsOf, Has, HasBoth, Disjoint}
 use Rattle.call_lists.specs.SegmentLaws.{frame-of, of-frame}
 use Rattle.plane_fit.specs.Fit.{frameCount}
-use Rattle.plane_moments.specs.Accumulate.{FramesWork, framesRefusal}
-use Rattle.map_planes.specs.Accumulate.{accumulateRefusal}
+use Rattle.block_transforms.specs.Transform.{Beside, shapeAt, widthAt}
+use Rattle.plane_moments.specs.Accumulate.{FramesWork, transformedFramesRefusal}
+use Rattle.map_planes.specs.Accumulate.{transformedMatchesRefusal}
 use Rattle.map_planes.specs.Accumulate as map_planes
 use Rattle.normal_list.specs.Work.{Work, frames, matches, refusalOf}
 use Rattle.normal_list.specs.Book.{layoutOf, unlessRefused, ownSegments, OwnsRow, OwnsCell, Apart}
@@ -26,10 +27,10 @@ module _ (P : Segment → Type 0) where
   some-unless r ss e s = rw e s
 
 module _ (m n : ℕ) where
-  row-exactly : (w : Work) (count dof : ℕ) (map : List ℕ) → layoutOf w ≡ record { count = count; place = lookup map; width = λ k. dof } → (i : ℕ)
-      → Exactly (OwnsRow m n w i) ((refusalOf m n w ≡ 0) × InFrame count dof map i)
+  row-exactly : (w : Work) (count dof : ℕ) (map shapes : List ℕ) → layoutOf w ≡ record { count = count; place = lookup map; width = widthAt (shapeAt shapes) dof } → (i : ℕ)
+      → Exactly (OwnsRow m n w i) ((refusalOf m n w ≡ 0) × InFrame count dof map shapes i)
   unfolding ownSegments
-  row-exactly w count dof map e i = (
+  row-exactly w count dof map shapes e i = (
     (λ own.
         let a = unless-some (Has i) (refusalOf m n w) (segmentsOf (layoutOf w)) own in
         let f = frame-of (Has i) _ (rw e at (a .1)) in
@@ -37,10 +38,10 @@ module _ (m n : ℕ) where
     (λ p. some-unless (Has i) (refusalOf m n w) (segmentsOf (layoutOf w)) (p .0) (rw e (of-frame (Has i) _ (p .1 .frame) (p .1 .offset) (p .1 .exists) (p .1 .mapped) (p .1 .row)))),
   )
 
-  cell-exactly : (w : Work) (count dof : ℕ) (map : List ℕ) → layoutOf w ≡ record { count = count; place = lookup map; width = λ k. dof } → (i j : ℕ)
-      → Exactly (OwnsCell m n w i j) ((refusalOf m n w ≡ 0) × InOneFrame count dof map i j)
+  cell-exactly : (w : Work) (count dof : ℕ) (map shapes : List ℕ) → layoutOf w ≡ record { count = count; place = lookup map; width = widthAt (shapeAt shapes) dof } → (i j : ℕ)
+      → Exactly (OwnsCell m n w i j) ((refusalOf m n w ≡ 0) × InOneFrame count dof map shapes i j)
   unfolding ownSegments
-  cell-exactly w count dof map e i j = (
+  cell-exactly w count dof map shapes e i j = (
     (λ own.
         let a = unless-some (HasBoth i j) (refusalOf m n w) (segmentsOf (layoutOf w)) own in
         let f = frame-of (HasBoth i j) _ (rw e at (a .1)) in
@@ -49,20 +50,24 @@ module _ (m n : ℕ) where
   )
 
   -- frames
-  pub frames-row : (w : FramesWork) (i : ℕ) → Exactly (OwnsRow m n (frames w) i) ((framesRefusal m n w ≡ 0) × InFrame (frameCount (w .frames)) (w .dof) (w .map) i)
-  frames-row w = row-exactly (frames w) (frameCount (w .frames)) (w .dof) (w .map) refl
+  pub frames-row : (b : Beside FramesWork) (i : ℕ)
+      → Exactly (OwnsRow m n (frames b) i) ((transformedFramesRefusal m n b ≡ 0) × InFrame (frameCount (b .work .frames)) (b .work .dof) (b .work .map) (b .shapes) i)
+  frames-row b = row-exactly (frames b) (frameCount (b .work .frames)) (b .work .dof) (b .work .map) (b .shapes) refl
 
-  pub frames-cell : (w : FramesWork) (i j : ℕ) → Exactly (OwnsCell m n (frames w) i j) ((framesRefusal m n w ≡ 0) × InOneFrame (frameCount (w .frames)) (w .dof) (w .map) i j)
-  frames-cell w = cell-exactly (frames w) (frameCount (w .frames)) (w .dof) (w .map) refl
+  pub frames-cell : (b : Beside FramesWork) (i j : ℕ)
+      → Exactly (OwnsCell m n (frames b) i j) ((transformedFramesRefusal m n b ≡ 0) × InOneFrame (frameCount (b .work .frames)) (b .work .dof) (b .work .map) (b .shapes) i j)
+  frames-cell b = cell-exactly (frames b) (frameCount (b .work .frames)) (b .work .dof) (b .work .map) (b .shapes) refl
 
   -- a match list counts as one frame, that of word 0
-  pub matches-row : (w : map_planes.Work) (i : ℕ) → Exactly (OwnsRow m n (matches w) i) ((accumulateRefusal m n w ≡ 0) × InFrame 1 (w .dof) (w .map) i)
-  matches-row w = row-exactly (matches w) 1 (w .dof) (w .map) refl
+  pub matches-row : (b : Beside map_planes.Work) (i : ℕ)
+      → Exactly (OwnsRow m n (matches b) i) ((transformedMatchesRefusal m n b ≡ 0) × InFrame 1 (b .work .dof) (b .work .map) (b .shapes) i)
+  matches-row b = row-exactly (matches b) 1 (b .work .dof) (b .work .map) (b .shapes) refl
 
-  pub matches-cell : (w : map_planes.Work) (i j : ℕ) → Exactly (OwnsCell m n (matches w) i j) ((accumulateRefusal m n w ≡ 0) × InOneFrame 1 (w .dof) (w .map) i j)
-  matches-cell w = cell-exactly (matches w) 1 (w .dof) (w .map) refl
+  pub matches-cell : (b : Beside map_planes.Work) (i j : ℕ)
+      → Exactly (OwnsCell m n (matches b) i j) ((transformedMatchesRefusal m n b ≡ 0) × InOneFrame 1 (b .work .dof) (b .work .map) (b .shapes) i j)
+  matches-cell b = cell-exactly (matches b) 1 (b .work .dof) (b .work .map) (b .shapes) refl
 
-  -- ---- calls whose mapped frames have no row in common, word by word, are apart, whatever else they are handed
+  -- ---- calls whose mapped frames have no row in common, by words and shapes, are apart, whatever else they are handed
   words-disjoint : (v w : Work) → WordsApart v w → Disjoint (ownSegments m n v) (ownSegments m n w)
   unfolding ownSegments
   words-disjoint v w apart i a b =

@@ -14,7 +14,7 @@ use Rattle.sums.specs.Sum.{zeroF}
 use Rattle.terms.specs.Terms.{cellOf, atCell}
 use Rattle.terms.specs.Places.{same-row, same-column, cell-fits}
 use Rattle.normal_blocks.specs.Map.{someExceeds}
-use Rattle.normal_blocks.specs.Calls.{badTarget, mapReasons}
+use Rattle.normal_blocks.specs.Calls.{badTarget}
 use Rattle.derivative.specs.Action.{actionSize, mostDof}
 use Rattle.plane_fit.specs.Fit.{frameCount}
 use Rattle.plane_fit.specs.Calls.{badActions}
@@ -28,10 +28,15 @@ use Rattle.call_lists.specs.Fold.{cellAfter, after-none}
 use Rattle.call_lists.specs.Chain.{HasChain, has-chain, whole, Folded, folded, hessian-unowned, gradient-unowned, settled, any-order}
 use Rattle.plane_fit.specs.declared.axis.Fit.{Fit}
 use Rattle.plane_fit.specs.declared.axis.Fit.the-variants.{Plane, NoPlane}
-use Rattle.plane_moments.specs.Accumulate.{FramesWork, badLengths, framesRefusal, fitOf, framesOf, costUnder, underFit, called, framesCall, accepted-call}
+use Rattle.block_transforms.specs.Transform.{Beside, shapeAt}
+use Rattle.block_transforms.specs.Reasons.{throughReasons}
+use Rattle.plane_moments.specs.Accumulate.{FramesWork, badLengths, transformedFramesRefusal, fitOf, framesOf, costUnder, underFit, called, transformedFramesCall}
+use Rattle.plane_moments.specs.Accumulate as plane_moments
+use Rattle.plane_moments.proofs.Accumulating.{accepted-call}
 use Rattle.match_sums.specs.Groups.{listCost}
 use Rattle.map_planes.specs.Calls.{badMatches, listReasons}
-use Rattle.map_planes.specs.Accumulate.{accumulateRefusal, matchesCall, accepted-list}
+use Rattle.map_planes.specs.Accumulate.{transformedMatchesRefusal, transformedMatchesCall}
+use Rattle.map_planes.proofs.Accumulating.{accepted-list}
 use Rattle.map_planes.specs.Accumulate as map_planes
 use Rattle.normal_list.specs.Work.{Work, frames, matches, refusalOf, callOf, Got, answerOf}
 use Rattle.normal_list.specs.Book.{layoutOf, unlessRefused, ownSegments, OwnsRow, OwnsCell, Apart, Page, unchanged, entered, framesPage, acceptedPage, judgedPage, pageOf, hessianBook, gradientBook}
@@ -42,16 +47,16 @@ judged-tame : (n r : ℕ) (ss : List Segment) (c : Call) → (r ≡ 0 → Tame n
 judged-tame n zero ss c t = t refl
 judged-tame n (suc r) ss c t = record { hessian = tt; gradient = tt }
 
-under-tame : (n : ℕ) (w : FramesWork) (f : Fit) → someExceeds n (layoutOf (frames w) .width) (layoutOf (frames w) .place) (layoutOf (frames w) .count) ≡ false → Tame n (segmentsOf (layoutOf (frames w))) (underFit n w f)
+under-tame : (n : ℕ) (b : Beside FramesWork) (f : Fit) → someExceeds n (layoutOf (frames b) .width) (layoutOf (frames b) .place) (layoutOf (frames b) .count) ≡ false → Tame n (segmentsOf (layoutOf (frames b))) (underFit n b f)
 unfolding underFit
-under-tame n w (Plane a b c offset) fit = framed-tame n (costUnder w (a ∷ b ∷ c ∷ []) offset) (framesOf w (a ∷ b ∷ c ∷ []) offset) fit
-under-tame n w NoPlane fit = record { hessian = tt; gradient = tt }
+under-tame n b (Plane u v w offset) fit = framed-tame n (costUnder (b .work) (u ∷ v ∷ w ∷ []) offset) (framesOf b (u ∷ v ∷ w ∷ []) offset) fit
+under-tame n b NoPlane fit = record { hessian = tt; gradient = tt }
 
 pub tame : (m n : ℕ) (w : Work) → Tame n (ownSegments m n w) (callOf m n w)
-unfolding ownSegments framesCall called matchesCall
-tame m n (frames w) = judged-tame n (framesRefusal m n w) _ (called n w) (λ e. under-tame n w (fitOf w) (accepted-call m n w e .ready .fits))
-tame m n (matches w) =
-    judged-tame n (accumulateRefusal m n w) _ _ (λ e. framed-tame n (listCost (w .action) (w .matches)) (map_planes.framesOf w) (accepted-list m n w e .fits))
+unfolding ownSegments transformedFramesCall called transformedMatchesCall
+tame m n (frames b) = judged-tame n (transformedFramesRefusal m n b) _ (called n b) (λ e. under-tame n b (fitOf (b .work)) (accepted-call m n b e .last .fits))
+tame m n (matches b) =
+    judged-tame n (transformedMatchesRefusal m n b) _ _ (λ e. framed-tame n (listCost (b .work .action) (b .work .matches)) (map_planes.framesOf b) (accepted-list m n b e .last .fits))
 
 -- ---- the page of a call is what the call's terms make of the cells of n rows
 record Same (n : ℕ) (c : Call) (p : Page) : Type 0 where
@@ -67,18 +72,18 @@ unfolding atCell
 judged-same n zero c p s = s refl
 judged-same n (suc r) c p s = record { answers = refl; hessian = λ i j l x. refl; gradient = λ i x. refl }
 
-plane-same : (m n : ℕ) (w : FramesWork) (f : Fit) → framesRefusal m n w ≡ 0 → Same n (underFit n w f) (framesPage w f)
+plane-same : (m n : ℕ) (b : Beside FramesWork) (f : Fit) → transformedFramesRefusal m n b ≡ 0 → Same n (underFit n b f) (framesPage b f)
 unfolding underFit atCell
-plane-same m n w (Plane a b c offset) e =
-    entered-same n (costUnder w (a ∷ b ∷ c ∷ []) offset) (framesOf w (a ∷ b ∷ c ∷ []) offset) (accepted-call m n w e .ready .fits)
-plane-same m n w NoPlane e = record { answers = refl; hessian = λ i j l x. refl; gradient = λ i x. refl }
+plane-same m n b (Plane u v w offset) e =
+    entered-same n (costUnder (b .work) (u ∷ v ∷ w ∷ []) offset) (framesOf b (u ∷ v ∷ w ∷ []) offset) (accepted-call m n b e .last .fits)
+plane-same m n b NoPlane e = record { answers = refl; hessian = λ i j l x. refl; gradient = λ i x. refl }
 
 page-same : (m n : ℕ) (w : Work) → Same n (callOf m n w) (pageOf m n w)
-unfolding pageOf framesCall called matchesCall
-page-same m n (frames w) = judged-same n (framesRefusal m n w) (called n w) (framesPage w (fitOf w)) (plane-same m n w (fitOf w))
-page-same m n (matches w) =
-    judged-same n (accumulateRefusal m n w) _ (acceptedPage (matches w))
-    (λ e. entered-same n (listCost (w .action) (w .matches)) (map_planes.framesOf w) (accepted-list m n w e .fits))
+unfolding pageOf transformedFramesCall called transformedMatchesCall
+page-same m n (frames b) = judged-same n (transformedFramesRefusal m n b) (called n b) (framesPage b (fitOf (b .work))) (plane-same m n b (fitOf (b .work)))
+page-same m n (matches b) =
+    judged-same n (transformedMatchesRefusal m n b) _ (acceptedPage (matches b))
+    (λ e. entered-same n (listCost (b .work .action) (b .work .matches)) (map_planes.framesOf b) (accepted-list m n b e .last .fits))
 
 module _ (m n : ℕ) where
   hessian-pages : (i j : ℕ) → i < n → (ws : List Work) (x : Float) → cellAfter (λ w. hessianTerms (callOf m n w)) (cellOf n i j) ws x ≡ hessianBook m n ws i j x
@@ -103,26 +108,28 @@ module _ (m n : ℕ) (other : m ≡ n * n → ⊥) where
   by-three false true c rest e = (1, omega arith, refl)
   by-three false false c rest e = (2, omega arith, rw e)
 
-  bad-lengths : (w : FramesWork) → badLengths (w .frames) (w .fixed) (w .decomposition) (length (w .map)) m n ≡ true
+  bad-frames : (b : Beside FramesWork) → plane_moments.badSlices m n b ≡ true
   unfolding badLengths
-  bad-lengths w = rw (bad-target (length (w .map)), or-true, or-true, or-true)
+  bad-frames b = rw (bad-target (length (b .work .map)), or-true, or-true, or-true)
 
-  bad-list : (w : map_planes.Work) → badMatches (w .matches) || badTarget (length (w .map)) m n ≡ true
-  bad-list w = rw (bad-target (length (w .map)), or-true)
+  bad-list : (b : Beside map_planes.Work) → badMatches (b .work .matches) || map_planes.badSlices m n b ≡ true
+  bad-list b = rw (bad-target (length (b .work .map)), or-true)
 
   refused-first : (w : Work) → (k : ℕ) × (k < 3) × (refusalOf m n w ≡ suc k)
-  unfolding framesRefusal accumulateRefusal
-  refused-first (frames w) =
+  unfolding transformedFramesRefusal transformedMatchesRefusal
+  refused-first (frames b) =
+      let w = b .work in
       by-three (ltb mostDof (w .dof)) (eqb (length (w .frames)) 0) _
-      (7 when not (finitePositive (w .sigma)) ∷ 8 when badActions (w .frames) (w .actions) ∷ mapReasons (w .map) (frameCount (w .frames)) (w .dof) n) (bad-lengths w)
-  refused-first (matches w) =
+      (7 when not (finitePositive (w .sigma)) ∷ 8 when badActions (w .frames) (w .actions) ∷ throughReasons (w .map) (shapeAt (b .shapes)) (frameCount (w .frames)) (w .dof) n) (bad-frames b)
+  refused-first (matches b) =
+      let w = b .work in
       by-three (ltb mostDof (w .dof)) (eqb (length (w .matches)) 0) _
-      ((listReasons (w .matches) ++ (8 when not (eqb (length (w .action)) actionSize) ∷ [])) ++ map_planes.listMap n w) (bad-list w)
+      ((listReasons (w .matches) ++ (8 when not (eqb (length (w .action)) actionSize) ∷ [])) ++ map_planes.lastReasons n b) (bad-list b)
 
   refused-call : (w : Work) (k : ℕ) → refusalOf m n w ≡ suc k → (answer (callOf m n w) ≡ refusal (suc k)) × (hessianTerms (callOf m n w) ≡ []) × (gradientTerms (callOf m n w) ≡ [])
-  unfolding framesCall matchesCall
-  refused-call (frames w) k e = (rw e, rw e, rw e)
-  refused-call (matches w) k e = (rw e, rw e, rw e)
+  unfolding transformedFramesCall transformedMatchesCall
+  refused-call (frames b) k e = (rw e, rw e, rw e)
+  refused-call (matches b) k e = (rw e, rw e, rw e)
 
   first-refused : (w : Work) → (k : ℕ) × (k < 3) × (answer (callOf m n w) ≡ refusal (suc k)) × (hessianTerms (callOf m n w) ≡ []) × (gradientTerms (callOf m n w) ≡ [])
   first-refused w =
@@ -194,15 +201,15 @@ judged-result : (r : ℕ) (c : Call) (x : Float) → cost x ≡ answer c → (go
 judged-result zero c x e = (record { number = 0; cost = x }, e)
 judged-result (suc r) c x e = (record { number = suc r; cost = zeroF }, refl)
 
-under-cost : (n : ℕ) (w : FramesWork) (f : Fit) → (x : Float) × (cost x ≡ answer (underFit n w f))
+under-cost : (n : ℕ) (b : Beside FramesWork) (f : Fit) → (x : Float) × (cost x ≡ answer (underFit n b f))
 unfolding underFit
-under-cost n w (Plane a b c offset) = (costUnder w (a ∷ b ∷ c ∷ []) offset, refl)
-under-cost n w NoPlane = (zeroF, refl)
+under-cost n b (Plane u v w offset) = (costUnder (b .work) (u ∷ v ∷ w ∷ []) offset, refl)
+under-cost n b NoPlane = (zeroF, refl)
 
 result : (m n : ℕ) (w : Work) → (got : Got) × (answerOf got ≡ answer (callOf m n w))
-unfolding framesCall called matchesCall
-result m n (frames w) = let c = under-cost n w (fitOf w) in judged-result (framesRefusal m n w) (called n w) (c .0) (c .1)
-result m n (matches w) = judged-result (accumulateRefusal m n w) _ (listCost (w .action) (w .matches)) refl
+unfolding transformedFramesCall called transformedMatchesCall
+result m n (frames b) = let c = under-cost n b (fitOf (b .work)) in judged-result (transformedFramesRefusal m n b) (called n b) (c .0) (c .1)
+result m n (matches b) = judged-result (transformedMatchesRefusal m n b) _ (listCost (b .work .action) (b .work .matches)) refl
 
 pub calls-exist : (ws : List Work) (h g : List Float) → HasChain callOf answerOf ws h g
 calls-exist = has-chain callOf answerOf result
@@ -210,8 +217,8 @@ calls-exist = has-chain callOf answerOf result
 -- ---- corollaries: the page of a call without plane costs +0 and changes nothing
 pub no-plane-page : (m n : ℕ) (w : Work) → WithoutPlane m n w → pageOf m n w ≡ unchanged (cost zeroF)
 unfolding pageOf
-no-plane-page m n (frames w) p = rw (p .0, p .1)
-no-plane-page m n (matches w) p = absurd p
+no-plane-page m n (frames b) p = rw (p .0, p .1)
+no-plane-page m n (matches b) p = absurd p
 
 -- so that with rows apart a cell whose owner has no plane keeps its content
 module _ (m n : ℕ) (h g : List Float) (es : List (Made Work Got)) (h′ g′ : List Float) (alone : OwnersAlone m n h g es h′ g′) where

@@ -1,16 +1,21 @@
--- A LIST OF FIVE CALLS of both factors, on a Hessian of order 6, to which the theorem applies. Its numbers were worked out on paper. Assumes nothing.
+-- A LIST OF EIGHT CALLS of both factors, with transforms and without, on a Hessian of order 12, to which the theorem applies. Its numbers were worked out on
+-- paper. Assumes nothing.
 --
---     rows 0 1 2 3 4 5
---     past   . .               refused: its second frame's two rows from row 5 on do not fit. Its first frame's rows are those of another call
---     seen   1 1               two frames of two columns, which overlap at row 1, and a fixed set
---              2 2
---     matched      m m         a match list of two matches, which begins where `seen` ends
---     flat             f       without plane, where `matched` ends
---     nowhere                  a frame without a word in the map
-use Prim.Native.Nat.{ℕ, zero, suc, _≤_}
+--     rows  0 1 2 3 4 5 6 7 8 9 10 11
+--     past    . .                       refused: its second frame's two rows from row 11 on do not fit. Its first frame's rows are those of another call
+--     seen    1 1                       two frames of two columns, which overlap at row 1, and a fixed set
+--               2 2
+--     matched       m m                 a match list of two matches, which begins where `seen` ends
+--     flat              f               without plane, where `matched` ends
+--     nowhere                           a frame without a word in the map
+--     narrowed            1             the frames of `seen`, the first through a transform of two by one, the second as it is
+--                                 2 2
+--     widened               m m m       the match list through a transform of two by three. With two rows the first frame of `narrowed` would meet it
+--     misshapen                         refused: a transform of three rows, of a word that no frame has
+use Prim.Native.Nat.{ℕ, zero, suc, _+_, _≤_}
 use mathlib.Core.Path.{_≡_, refl}
 use mathlib.Core.List.{List, [], _∷_, _++_, map}
-use mathlib.Core.Logic.{inl, inr, ⊎-elim}
+use mathlib.Core.Logic.{_⊎_, inl, inr, ⊎-elim}
 use native.Mathlib.Omega.{arith}
 use lib.ListN.{length, getD, replicate}
 use lib.Ieee.{Float, nan, binary64, ofBits, add, mul, sub, div, neg, lt, le}
@@ -40,10 +45,13 @@ use Rattle.frame_segment.specs.Frame.{blockEntry, pulledEntry}
 use Rattle.frame_parts.specs.Frame.{vectorEntry}
 use Rattle.match_rows.specs.Row.{residualAt, rowAt}
 use Rattle.match_sums.specs.Groups.{groupSize, groupSum, byGroups, costTerm, blockTerm, vectorTerm, listCost, listBlock, listVector}
-use Rattle.plane_moments.specs.Accumulate.{badLengths, framesRefusal, fitOf}
+use Rattle.block_transforms.specs.Transform.{without, NO_TRANSFORM, shapeOf, shapeAt, entryFrom, leftProduct, transformedBlock, transformedVector, widthAt}
+use Rattle.block_transforms.specs.Reasons.{badBeside, misfit, misfitAt, someMisfit}
+use Rattle.plane_moments.specs.Accumulate.{FramesWork, badLengths, transformedFramesRefusal, fitOf}
 use Rattle.map_plane.specs.Match.{badPoint, badSigma}
 use Rattle.map_planes.specs.Calls.{badMatches, reasonsAt}
-use Rattle.map_planes.specs.Accumulate.{accumulateRefusal}
+use Rattle.map_planes.specs.Accumulate.{transformedMatchesRefusal}
+use Rattle.map_planes.specs.Accumulate as map_planes
 use Rattle.normal_list.specs.Work.{Work, frames, matches, Got, answerOf}
 use Rattle.normal_list.specs.Book.{ownSegments, OwnsCell, Apart, pageOf}
 use Rattle.normal_list.specs.Demand.{Among, WordsApart, Calls, OwnersAlone}
@@ -80,17 +88,29 @@ sixteen = 0x4030_0000_0000_0000
 abbrev minus16 : ℕ
 minus16 = 0xc030_0000_0000_0000
 
+abbrev eleven : ℕ
+eleven = 0x4026_0000_0000_0000
+
 abbrev eighteen : ℕ
 eighteen = 0x4032_0000_0000_0000
 
+abbrev twentyFour : ℕ
+twentyFour = 0x4038_0000_0000_0000
+
 abbrev thirtyTwo : ℕ
 thirtyTwo = 0x4040_0000_0000_0000
+
+abbrev thirtyFour : ℕ
+thirtyFour = 0x4041_0000_0000_0000
 
 abbrev minus48 : ℕ
 minus48 = 0xc048_0000_0000_0000
 
 abbrev sixtyFour : ℕ
 sixtyFour = 0x4050_0000_0000_0000
+
+abbrev minus80 : ℕ
+minus80 = 0xc054_0000_0000_0000
 
 abbrev seventyTwo : ℕ
 seventyTwo = 0x4052_0000_0000_0000
@@ -103,6 +123,9 @@ oneThirtySix = 0x4061_0000_0000_0000
 
 abbrev twoSeventyTwo : ℕ
 twoSeventyTwo = 0x4071_0000_0000_0000
+
+abbrev sixFiftySix : ℕ
+sixFiftySix = 0x4084_8000_0000_0000
 
 abbrev numbers : List ℕ → List Float
 numbers ps = map (ofBits binary64) ps
@@ -136,8 +159,8 @@ abbrev round : List ℕ
 round = replicate 12 0
 
 -- frames with sigma 0.5
-abbrev seenFrom : ℕ → List ℕ → List ℕ → List ℕ → List ℕ → List ℕ → Work
-seenFrom dof fs fixed xs decomposition map = frames (record {
+abbrev seenFrom : ℕ → List ℕ → List ℕ → List ℕ → List ℕ → List ℕ → FramesWork
+seenFrom dof fs fixed xs decomposition map = record {
   dof = dof;
   frames = numbers fs;
   fixed = numbers fixed;
@@ -145,46 +168,79 @@ seenFrom dof fs fixed xs decomposition map = frames (record {
   actions = numbers xs;
   decomposition = decomposition;
   map = map;
-})
+}
 
 abbrev past : Work
-past = seenFrom 2 (square ++ pair) [] (staying ++ resting) upright (0 ∷ 5 ∷ [])
+past = frames (without (seenFrom 2 (square ++ pair) [] (staying ++ resting) upright (0 ∷ 11 ∷ [])))
 
 abbrev seen : Work
-seen = seenFrom 2 (square ++ pair) known (staying ++ resting) upright (0 ∷ 1 ∷ [])
+seen = frames (without (seenFrom 2 (square ++ pair) known (staying ++ resting) upright (0 ∷ 1 ∷ [])))
 
 -- the points (0, 2, 0) and (0, 0, 0) under the normal (1, 0, 0), with offsets 1 and 2 and sigma 1
-abbrev matched : Work
-matched = matches (record {
+abbrev matchedAt : List ℕ → map_planes.Work
+matchedAt map = record {
   dof = 2;
   matches = numbers (0 ∷ two ∷ 0 ∷ one ∷ 0 ∷ 0 ∷ one ∷ one ∷ 0 ∷ 0 ∷ 0 ∷ one ∷ 0 ∷ 0 ∷ two ∷ one ∷ []);
   action = numbers staying;
-  map = 3 ∷ [];
-})
+  map = map;
+}
+
+abbrev matched : Work
+matched = matches (without (matchedAt (3 ∷ [])))
 
 abbrev flat : Work
-flat = seenFrom 1 square [] staying round (5 ∷ [])
+flat = frames (without (seenFrom 1 square [] staying round (5 ∷ [])))
 
 abbrev nowhere : Work
-nowhere = seenFrom 1 square [] staying upright []
+nowhere = frames (without (seenFrom 1 square [] staying upright []))
 
-abbrev list : Got → Got → Got → Got → Got → List (Made Work Got)
-list r₁ r₂ r₃ r₄ r₅ =
+-- T = (1, 2)ᵀ of the first frame, and none of the second
+abbrev narrowed : Work
+narrowed = frames (record {
+  work = seenFrom 2 (square ++ pair) known (staying ++ resting) upright (6 ∷ 10 ∷ []);
+  shapes = 2 ∷ 1 ∷ NO_TRANSFORM ∷ NO_TRANSFORM ∷ [];
+  transforms = numbers ((one ∷ two ∷ replicate 79 three) ++ replicate 81 three);
+})
+
+-- T has the columns (1, 0), (0, 1) and (1, 1)
+abbrev widened : Work
+widened = matches (record {
+  work = matchedAt (7 ∷ []);
+  shapes = 2 ∷ 3 ∷ [];
+  transforms = numbers ((one ∷ 0 ∷ 0 ∷ one ∷ one ∷ one ∷ []) ++ replicate 75 three);
+})
+
+abbrev misshapen : Work
+misshapen = matches (record {
+  work = matchedAt (0 ∷ 0 ∷ []);
+  shapes = NO_TRANSFORM ∷ NO_TRANSFORM ∷ 3 ∷ 1 ∷ [];
+  transforms = numbers (replicate 162 one);
+})
+
+-- the list's own inputs, and the calls with what they returned
+abbrev worksOf : List Work
+worksOf = past ∷ seen ∷ matched ∷ flat ∷ nowhere ∷ narrowed ∷ widened ∷ misshapen ∷ []
+
+abbrev list : Got → Got → Got → Got → Got → Got → Got → Got → List (Made Work Got)
+list r₁ r₂ r₃ r₄ r₅ r₆ r₇ r₈ =
     record { work = past; got = r₁ } ∷
     record { work = seen; got = r₂ } ∷
     record { work = matched; got = r₃ } ∷
     record { work = flat; got = r₄ } ∷
-    record { work = nowhere; got = r₅ } ∷ []
+    record { work = nowhere; got = r₅ } ∷
+    record { work = narrowed; got = r₆ } ∷
+    record { work = widened; got = r₇ } ∷
+    record { work = misshapen; got = r₈ } ∷ []
 
 -- what cell (i, j) of the Hessian and cell i of the gradient hold
 abbrev cell : List Float → ℕ → ℕ → Float
-cell h i j = getD h (cellOf 6 i j) nan
+cell h i j = getD h (cellOf 12 i j) nan
 
 abbrev row : List Float → ℕ → Float
 row g i = getD g i nan
 
 -- what the list has done, of any first content
-pub record Done (r₁ r₂ r₃ r₄ r₅ : Got) (h g h′ g′ : List Float) : Type 0 where
+pub record Done (r₁ r₂ r₃ r₄ r₅ r₆ r₇ r₈ : Got) (h g h′ g′ : List Float) : Type 0 where
   pub past-refused : answerOf r₁ ≡ refusal 10
   -- The plane is x = 2. The first frame has along -1, D = (1, 0; 0, 1; 0, 0) and m = (4, 1), the second along 2, D = (1, 0; 0, 0; 0, 0) and m = (4, 1); they cost
   -- 32 and 40, and the fixed set 24
@@ -216,37 +272,52 @@ pub record Done (r₁ r₂ r₃ r₄ r₅ : Got) (h g h′ g′ : List Float) : 
   pub flat-keeps-row : row g′ 5 ≡ row g 5
   -- a frame that goes nowhere costs
   pub nowhere-costs : answerOf r₅ ≡ cost (ofBits binary64 sixteen)
+  -- Of the first frame M has the columns (272, 64) and (64, 32), so that Tᵀ·M = (400, 128), Tᵀ·M·T = 656 and Tᵀ·v = -80: one row and no second
+  pub narrowed-costs : answerOf r₆ ≡ cost (ofBits binary64 ninetySix)
+  pub narrowed-adds : cell h′ 6 6 ≡ cell h 6 6 ⊕ ofBits binary64 sixFiftySix
+  pub narrowed-pulls : row g′ 6 ≡ row g 6 ⊕ ofBits binary64 minus80
+  pub narrowed-ends : cell h′ 6 7 ≡ cell h 6 7
+  pub untransformed-adds : cell h′ 10 10 ≡ cell h 10 10 ⊕ ofBits binary64 oneThirtySix
+  pub untransformed-adds-beside : cell h′ 11 10 ≡ cell h 11 10 ⊕ ofBits binary64 thirtyTwo
+  pub untransformed-pulls : row g′ 11 ≡ row g 11 ⊕ ofBits binary64 sixteen
+  -- M has the columns (18, 6) and (6, 4), so that Tᵀ·M has the rows (18, 6), (6, 4) and (24, 10)
+  pub widened-costs : answerOf r₇ ≡ cost (ofBits binary64 five)
+  pub widened-adds : cell h′ 7 9 ≡ cell h 7 9 ⊕ ofBits binary64 twentyFour
+  pub widened-adds-last : cell h′ 9 9 ≡ cell h 9 9 ⊕ ofBits binary64 thirtyFour
+  pub widened-pulls : row g′ 9 ≡ row g 9 ⊕ ofBits binary64 eleven
+  pub misshapen-refused : answerOf r₈ ≡ refusal 14
 
--- the list's own inputs
-abbrev worksOf : List Work
-worksOf = past ∷ seen ∷ matched ∷ flat ∷ nowhere ∷ []
+pub apart : Apart 144 12 worksOf
+unfolding ownSegments frameSegment transformedFramesRefusal badLengths badRecords badCount badTarget badBeside finiteAbove badWords badWordAt badWord somewhere someMisfit misfitAt misfit someExceeds exceedsAt exceeds widthAt shapeAt shapeOf lookup wordAt placeOf upto transformedMatchesRefusal badMatches reasonsAt badPoint badSigma allFinite ofBits add mul sub div neg lt le
+apart = all-apart (ownSegments 144 12) worksOf refl
 
-pub apart : Apart 36 6 worksOf
-unfolding ownSegments frameSegment framesRefusal badLengths badRecords badCount badTarget finiteAbove badWords badWordAt badWord somewhere someExceeds exceedsAt exceeds lookup wordAt placeOf upto accumulateRefusal badMatches reasonsAt badPoint badSigma allFinite ofBits add mul sub div neg lt le
-apart = all-apart (ownSegments 36 6) worksOf refl
-
--- and by their words alone, two of them: the frames of `seen` have rows 0 and 1, and 1 and 2, the match list rows 3 and 4
-apart-at : (q o p i : ℕ) → At q ≡ At o → At 3 ≡ At p → Among o 2 i → Among p 2 i → q ≤ 1 → ⊥
-apart-at q o p i at at′ a b h =
+-- and by words and shapes alone, two of them: the frames of `narrowed` have row 6, and rows 10 and 11, the match list rows 7 to 9
+apart-at : (q width o p i : ℕ) → At q ≡ At o → At 7 ≡ At p → Among o width i → Among p 3 i → (q + width ≤ 7) ⊎ (10 ≤ q) → ⊥
+apart-at q width o p i at at′ a b h =
     let e : q ≡ o = cc in
-    let f : 3 ≡ p = cc in
-    omega (arith, a .0, a .1, b .0, b .1)
+    let f : 7 ≡ p = cc in
+    ⊎-elim (λ l. omega (arith, a .0, a .1, b .0, b .1)) (λ l. omega (arith, a .0, a .1, b .0, b .1)) h
 
-pub words : WordsApart seen matched
-unfolding lookup wordAt placeOf
-words zero zero o p i h k at at′ a b = apart-at 0 o p i at at′ a b (omega arith)
-words (suc zero) zero o p i h k at at′ a b = apart-at 1 o p i at at′ a b (omega arith)
+pub words : WordsApart narrowed widened
+unfolding lookup wordAt placeOf widthAt shapeAt shapeOf
+words zero zero o p i h k at at′ a b = apart-at 6 1 o p i at at′ a b (inl (omega arith))
+words (suc zero) zero o p i h k at at′ a b = apart-at 10 2 o p i at at′ a b (inr (omega arith))
 words (suc (suc x)) zero o p i h k at at′ a b = absurd (omega arith)
 words x (suc l) o p i h k at at′ a b = absurd (omega arith)
 
 -- no call has rows 0 and 2 in one segment, nor rows 2 and 3
-across-frames-none : Every (λ w. OwnsCell 36 6 w 0 2 → ⊥) worksOf
-unfolding ownSegments frameSegment framesRefusal badLengths badRecords badCount badTarget finiteAbove badWords badWordAt badWord somewhere someExceeds exceedsAt exceeds lookup wordAt placeOf upto accumulateRefusal badMatches reasonsAt badPoint badSigma allFinite ofBits add mul sub div neg lt le
-across-frames-none = ((λ p. p), (⊎-elim (λ p. omega arith) (⊎-elim (λ p. omega arith) (λ p. p)), (⊎-elim (λ p. omega arith) (λ p. p), (⊎-elim (λ p. omega arith) (λ p. p), ((λ p. p), tt)))))
+across-frames-none : Every (λ w. OwnsCell 144 12 w 0 2 → ⊥) worksOf
+unfolding ownSegments frameSegment transformedFramesRefusal badLengths badRecords badCount badTarget badBeside finiteAbove badWords badWordAt badWord somewhere someMisfit misfitAt misfit someExceeds exceedsAt exceeds widthAt shapeAt shapeOf lookup wordAt placeOf upto transformedMatchesRefusal badMatches reasonsAt badPoint badSigma allFinite ofBits add mul sub div neg lt le
+across-frames-none = ((λ p. p), (⊎-elim (λ p. omega arith) (⊎-elim (λ p. omega arith) (λ p. p)), (⊎-elim (λ p. omega arith) (λ p. p), (⊎-elim (λ p. omega arith) (λ p. p), ((λ p. p), (⊎-elim (λ p. omega arith) (⊎-elim (λ p. omega arith) (λ p. p)), (⊎-elim (λ p. omega arith) (λ p. p), ((λ p. p), tt))))))))
 
-across-calls-none : Every (λ w. OwnsCell 36 6 w 2 3 → ⊥) worksOf
-unfolding ownSegments frameSegment framesRefusal badLengths badRecords badCount badTarget finiteAbove badWords badWordAt badWord somewhere someExceeds exceedsAt exceeds lookup wordAt placeOf upto accumulateRefusal badMatches reasonsAt badPoint badSigma allFinite ofBits add mul sub div neg lt le
-across-calls-none = ((λ p. p), (⊎-elim (λ p. omega arith) (⊎-elim (λ p. omega arith) (λ p. p)), (⊎-elim (λ p. omega arith) (λ p. p), (⊎-elim (λ p. omega arith) (λ p. p), ((λ p. p), tt)))))
+across-calls-none : Every (λ w. OwnsCell 144 12 w 2 3 → ⊥) worksOf
+unfolding ownSegments frameSegment transformedFramesRefusal badLengths badRecords badCount badTarget badBeside finiteAbove badWords badWordAt badWord somewhere someMisfit misfitAt misfit someExceeds exceedsAt exceeds widthAt shapeAt shapeOf lookup wordAt placeOf upto transformedMatchesRefusal badMatches reasonsAt badPoint badSigma allFinite ofBits add mul sub div neg lt le
+across-calls-none = ((λ p. p), (⊎-elim (λ p. omega arith) (⊎-elim (λ p. omega arith) (λ p. p)), (⊎-elim (λ p. omega arith) (λ p. p), (⊎-elim (λ p. omega arith) (λ p. p), ((λ p. p), (⊎-elim (λ p. omega arith) (⊎-elim (λ p. omega arith) (λ p. p)), (⊎-elim (λ p. omega arith) (λ p. p), ((λ p. p), tt))))))))
+
+-- nor rows 6 and 7, which are rows of two calls
+narrowed-ends-none : Every (λ w. OwnsCell 144 12 w 6 7 → ⊥) worksOf
+unfolding ownSegments frameSegment transformedFramesRefusal badLengths badRecords badCount badTarget badBeside finiteAbove badWords badWordAt badWord somewhere someMisfit misfitAt misfit someExceeds exceedsAt exceeds widthAt shapeAt shapeOf lookup wordAt placeOf upto transformedMatchesRefusal badMatches reasonsAt badPoint badSigma allFinite ofBits add mul sub div neg lt le
+narrowed-ends-none = ((λ p. p), (⊎-elim (λ p. omega arith) (⊎-elim (λ p. omega arith) (λ p. p)), (⊎-elim (λ p. omega arith) (λ p. p), (⊎-elim (λ p. omega arith) (λ p. p), ((λ p. p), (⊎-elim (λ p. omega arith) (⊎-elim (λ p. omega arith) (λ p. p)), (⊎-elim (λ p. omega arith) (λ p. p), ((λ p. p), tt))))))))
 
 is-seen : In seen worksOf
 is-seen = inr (inl refl)
@@ -257,12 +328,18 @@ is-matched = inr (inr (inl refl))
 is-flat : In flat worksOf
 is-flat = inr (inr (inr (inl refl)))
 
-module _ (r₁ r₂ r₃ r₄ r₅ : Got) (h g h′ g′ : List Float) (lh : length h ≡ 36) (lg : length g ≡ 6) (calls : Calls h g (list r₁ r₂ r₃ r₄ r₅) h′ g′) where
-  settled : OwnersAlone 36 6 h g (list r₁ r₂ r₃ r₄ r₅) h′ g′
-  settled = rw (lh, lg) at (owners-alone h g (list r₁ r₂ r₃ r₄ r₅) h′ g′ calls (rw (lh, lg)) (rw (lh, lg) apart))
+is-narrowed : In narrowed worksOf
+is-narrowed = inr (inr (inr (inr (inr (inl refl)))))
 
-  pub worked : Done r₁ r₂ r₃ r₄ r₅ h g h′ g′
-  unfolding ownSegments frameSegment framesRefusal badLengths badRecords badCount badTarget finiteAbove badWords badWordAt badWord somewhere someExceeds exceedsAt exceeds lookup wordAt placeOf upto accumulateRefusal badMatches reasonsAt badPoint badSigma allFinite ofBits add mul sub div neg lt le fitOf smallestAxis framesPlane atLeastOne absolute risingOf orderOf before fitMean weighted total countAt weightedAt recordOf pageOf hessianCell gradientCell framesCost costAt frameCost fixedCost costOf scatterOn weightOf blockEntry vectorEntry pulledEntry normalRow combined shifted listCost listBlock listVector byGroups groupSum groupSize costTerm blockTerm vectorTerm residualAt rowAt
+is-widened : In widened worksOf
+is-widened = inr (inr (inr (inr (inr (inr (inl refl))))))
+
+module _ (r₁ r₂ r₃ r₄ r₅ r₆ r₇ r₈ : Got) (h g h′ g′ : List Float) (lh : length h ≡ 144) (lg : length g ≡ 12) (calls : Calls h g (list r₁ r₂ r₃ r₄ r₅ r₆ r₇ r₈) h′ g′) where
+  settled : OwnersAlone 144 12 h g (list r₁ r₂ r₃ r₄ r₅ r₆ r₇ r₈) h′ g′
+  settled = rw (lh, lg) at (owners-alone h g (list r₁ r₂ r₃ r₄ r₅ r₆ r₇ r₈) h′ g′ calls (rw (lh, lg)) (rw (lh, lg) apart))
+
+  pub worked : Done r₁ r₂ r₃ r₄ r₅ r₆ r₇ r₈ h g h′ g′
+  unfolding ownSegments frameSegment transformedFramesRefusal badLengths badRecords badCount badTarget badBeside finiteAbove badWords badWordAt badWord somewhere someMisfit misfitAt misfit someExceeds exceedsAt exceeds widthAt shapeAt shapeOf lookup wordAt placeOf upto transformedMatchesRefusal badMatches reasonsAt badPoint badSigma allFinite ofBits add mul sub div neg lt le fitOf smallestAxis framesPlane atLeastOne absolute risingOf orderOf before fitMean weighted total countAt weightedAt recordOf pageOf hessianCell gradientCell framesCost costAt frameCost fixedCost costOf scatterOn weightOf blockEntry vectorEntry pulledEntry normalRow combined shifted listCost listBlock listVector byGroups groupSum groupSize costTerm blockTerm vectorTerm residualAt rowAt entryFrom leftProduct transformedBlock transformedVector
   worked = record {
     past-refused = settled .booked .answers _ (inl refl);
     seen-costs = settled .booked .answers _ (inr (inl refl));
@@ -286,4 +363,16 @@ module _ (r₁ r₂ r₃ r₄ r₅ : Got) (h g h′ g′ : List Float) (lh : len
     flat-keeps = settled .hessian 5 5 (omega arith) (omega arith) flat is-flat (inl ((omega arith, omega arith), (omega arith, omega arith)));
     flat-keeps-row = settled .gradient 5 (omega arith) flat is-flat (inl (omega arith, omega arith));
     nowhere-costs = settled .booked .answers _ (inr (inr (inr (inr (inl refl)))));
+    narrowed-costs = settled .booked .answers _ (inr (inr (inr (inr (inr (inl refl))))));
+    narrowed-adds = settled .hessian 6 6 (omega arith) (omega arith) narrowed is-narrowed (inl ((omega arith, omega arith), (omega arith, omega arith)));
+    narrowed-pulls = settled .gradient 6 (omega arith) narrowed is-narrowed (inl (omega arith, omega arith));
+    narrowed-ends = settled .booked .hessian-kept 6 7 (omega arith) (omega arith) (every-in _ worksOf narrowed-ends-none);
+    untransformed-adds = settled .hessian 10 10 (omega arith) (omega arith) narrowed is-narrowed (inr (inl ((omega arith, omega arith), (omega arith, omega arith))));
+    untransformed-adds-beside = settled .hessian 11 10 (omega arith) (omega arith) narrowed is-narrowed (inr (inl ((omega arith, omega arith), (omega arith, omega arith))));
+    untransformed-pulls = settled .gradient 11 (omega arith) narrowed is-narrowed (inr (inl (omega arith, omega arith)));
+    widened-costs = settled .booked .answers _ (inr (inr (inr (inr (inr (inr (inl refl)))))));
+    widened-adds = settled .hessian 7 9 (omega arith) (omega arith) widened is-widened (inl ((omega arith, omega arith), (omega arith, omega arith)));
+    widened-adds-last = settled .hessian 9 9 (omega arith) (omega arith) widened is-widened (inl ((omega arith, omega arith), (omega arith, omega arith)));
+    widened-pulls = settled .gradient 9 (omega arith) widened is-widened (inl (omega arith, omega arith));
+    misshapen-refused = settled .booked .answers _ (inr (inr (inr (inr (inr (inr (inr (inl refl))))))));
   }

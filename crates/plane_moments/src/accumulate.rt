@@ -11,7 +11,7 @@ use plane_fit::axis::Fit;
 use point_moments::scatter::CENTRED;
 
 // 3: the frames, the fixed set, the decomposition, and the target of so many cells and n rows with its map of so many words.
-fn bad_lengths(
+pub fn bad_lengths(
     frames: &[f64],
     fixed: &[f64],
     decomposition: &[u64],

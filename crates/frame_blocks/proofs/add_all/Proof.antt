@@ -21,12 +21,12 @@ returns-2 : tie.Need-returns-2
 returns-2 c =
     let added = c .before .before .before .before .before in
     let three = added .before .before .before .before .before in
-    rw (three .if2 .taken) (all-added _ _ _ _ _ _ _ _ _ _ _ _ _ _ _ _ refl (c .with-fixed2 .ensures) (added .add-threes .ensures))
+    rw (three .if2 .taken) (all-added _ _ _ _ _ _ _ _ _ _ _ _ _ _ _ refl (c .with-fixed2 .ensures) (added .add-threes .ensures))
 
 returns-3 : tie.Need-returns-3
 returns-3 c =
     let added = c .before .before .before .before .before in
-    all-added _ _ _ _ _ _ _ _ _ _ _ _ _ _ _ _ refl (c .with-fixed3 .ensures) (added .add-frames .ensures)
+    all-added _ _ _ _ _ _ _ _ _ _ _ _ _ _ _ refl (c .with-fixed3 .ensures) (added .add-frames .ensures)
 
 pub add-all-spec : {M : Type 1} → statement M
 add-all-spec =

@@ -2,47 +2,44 @@
 use mathlib.Core.Path.{_≡_, sym, _∙_}
 use native.Mathlib.Omega.{arith}
 use borrow.Author.Needs.{needs}
-use Rattle.normal_blocks.specs.Calls.{mapRefusal}
 use Rattle.normal_blocks.specs.Laws.{fits}
+use Rattle.block_transforms.proofs.Laws.{exceeds-none}
 use Rattle.map_planes.specs.Calls.{fit}
-use Rattle.map_planes.specs.Accumulate.{list-refuses, map-decides, accepted-list, accumulated-no, accumulated-one}
+use Rattle.map_planes.proofs.Accumulating.{plain-refuses, plain-decides, accepted-list, accumulated-no, plain-one}
 use Rattle.map_planes.proofs.accumulate.Statement.{statement}
 use Rattle.map_planes.proofs.accumulate.Tie as tie
 
 returns : tie.Need-returns
 returns c =
     let l = c .before in
-    accumulated-no _ _ _ _ _ _ _ (list-refuses _ _ _ _ _ (l .before .bad-target .ensures) (l .matches-refusal .ensures) (c .if1 .taken)) (c .if1 .taken)
+    accumulated-no _ _ _ _ _ _ _ (plain-refuses _ _ _ _ _ (l .before .bad-target .ensures) (l .matches-refusal .ensures) (c .if1 .taken)) (c .if1 .taken)
 
 returns-2 : tie.Need-returns-2
-unfolding mapRefusal
 returns-2 c =
     let m = c .before in
     let l = m .before .before in
     accumulated-no _ _ _ _ _ _ _
-    (m .map-refusal .ensures ∙ sym (map-decides _ _ _ _ _ (l .before .bad-target .ensures) (l .matches-refusal .ensures) (m .before .if1 .left))) (λ z. omega arith)
+    (m .map-refusal .ensures ∙ sym (plain-decides _ _ _ _ _ (l .before .bad-target .ensures) (l .matches-refusal .ensures) (m .before .if1 .left))) (λ z. omega arith)
 
 add-list-requires : tie.Need-add-list-requires
-unfolding mapRefusal
 add-list-requires c κs =
     let past = c .before .before in
     let m = past .before in
     let l = m .before .before in
     let good = fit _ _ _ _ (sym (l .matches-refusal .ensures) ∙ m .before .if1 .left) in
     let none : m .map-refusal .result ≡ 0 = omega arith in
-    let taken = accepted-list _ _ _ (map-decides _ _ _ _ _ (l .before .bad-target .ensures) (l .matches-refusal .ensures) (m .before .if1 .left) ∙ sym (m .map-refusal .ensures) ∙ none) in
-    (good .narrow, good .action-size, taken .square, fits _ _ _ 1 (taken .fits) 0 (omega arith))
+    let taken = accepted-list _ _ _ (plain-decides _ _ _ _ _ (l .before .bad-target .ensures) (l .matches-refusal .ensures) (m .before .if1 .left) ∙ sym (m .map-refusal .ensures) ∙ none) in
+    (good .narrow, good .action-size, taken .square, fits _ _ _ 1 (sym (exceeds-none _ _ _ 1) ∙ taken .last .fits) 0 (omega arith))
 
 returns-3 : tie.Need-returns-3
-unfolding mapRefusal
 returns-3 c =
     let added = c .before .before .before .before in
     let past = added .before .before .before in
     let m = past .before in
     let l = m .before .before in
     let did = added .add-list .ensures in
-    accumulated-one _ _ _ _ _ _ _ _ _
-    (map-decides _ _ _ _ _ (l .before .bad-target .ensures) (l .matches-refusal .ensures) (m .before .if1 .left) ∙ sym (m .map-refusal .ensures) ∙ past .if2 .left)
+    plain-one _ _ _ _ _ _ _ _ _
+    (plain-decides _ _ _ _ _ (l .before .bad-target .ensures) (l .matches-refusal .ensures) (m .before .if1 .left) ∙ sym (m .map-refusal .ensures) ∙ past .if2 .left)
     (did .0) (did .1) (did .2)
 
 pub accumulate-spec : {M : Type 1} → statement M

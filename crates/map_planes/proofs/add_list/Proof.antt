@@ -4,7 +4,7 @@ use native.Mathlib.Omega.{arith}
 use borrow.Author.Needs.{needs}
 use Rattle.normal_blocks.specs.Laws.{fits-at}
 use Rattle.normal_blocks.specs.TargetLaws.{hessian-mapped, gradient-mapped, hessian-unmapped, gradient-unmapped}
-use Rattle.map_planes.specs.Accumulate.{block-entries, vector-numbers}
+use Rattle.map_planes.proofs.Accumulating.{block-entries, vector-numbers}
 use Rattle.map_planes.proofs.add_list.Statement.{statement}
 use Rattle.map_planes.proofs.add_list.Tie as tie
 

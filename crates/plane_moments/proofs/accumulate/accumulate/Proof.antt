@@ -2,7 +2,7 @@
 use mathlib.Core.Path.{_≡_, sym, _∙_}
 use native.Mathlib.Omega.{arith}
 use borrow.Author.Needs.{needs}
-use Rattle.plane_moments.specs.Accumulate.{refused-call}
+use Rattle.plane_moments.proofs.Accumulating.{refused-call}
 use Rattle.plane_moments.proofs.accumulate.accumulate.Statement.{statement}
 use Rattle.plane_moments.proofs.accumulate.accumulate.Tie as tie
 

@@ -1,7 +1,7 @@
 -- `plane_moments::accumulate::add_fitted` meets its contract: without plane, or with all frames added. Assumes nothing.
 use mathlib.Core.Path.{_∙_}
 use borrow.Author.Needs.{needs}
-use Rattle.plane_moments.specs.Accumulate.{accepted-call, no-plane-call, plane-call, fit-is}
+use Rattle.plane_moments.proofs.Accumulating.{accepted-call, no-plane-call, plain-ready, plain-call, fit-is}
 use Rattle.plane_moments.proofs.accumulate.add_fitted.Statement.{statement}
 use Rattle.plane_moments.proofs.accumulate.add_fitted.Tie as tie
 
@@ -15,8 +15,8 @@ add-all-requires : tie.Need-add-all-requires
 add-all-requires c κs =
     let found = c .before .before .before .before in
     let e = found .before .before .before .before in
-    let accepted = accepted-call _ _ _ (e .before .before .before .before .before .before .before .pre) in
-    (accepted .ready, accepted .whole .fixed-whole)
+    let accepted = e .before .before .before .before .before .before .before .pre in
+    (plain-ready _ _ _ accepted, accepted-call _ _ _ accepted .whole .fixed-whole)
 
 returns : tie.Need-returns
 returns c =
@@ -26,7 +26,7 @@ returns c =
     let axis = found .before .before in
     let mean = axis .before in
     let e = mean .before in
-    λ x. plane-call _ _ x _ _ _ _ _ _ _ _ _ (e .before .before .before .before .before .before .before .pre) (fit-is _ _ _ (mean .fit-mean .ensures) (axis .smallest-axis .ensures) ∙ found .a .given .1) (weighed .weight .ensures) (added .add-all .ensures)
+    λ x. plain-call _ _ x _ _ _ _ _ _ _ _ _ (e .before .before .before .before .before .before .before .pre) (fit-is _ _ _ (mean .fit-mean .ensures) (axis .smallest-axis .ensures) ∙ found .a .given .1) (weighed .weight .ensures) (added .add-all .ensures)
 
 returns-2 : tie.Need-returns-2
 returns-2 c =

@@ -4,42 +4,38 @@ use mathlib.Core.Bool.{true, not}
 use borrow.Author.Tests.{lt-ltb, le-ltb, eq-eqb, ne-eqb}
 use Rattle.validate.specs.Finite.{finitePositive}
 use Rattle.normal_blocks.specs.Calls.{mapRefusal}
-use Rattle.plane_moments.specs.Accumulate.{framesRefusal}
+use Rattle.plane_moments.proofs.Accumulating.{plain-refusal}
 use Rattle.plane_moments.proofs.accumulate.refusal.Statement.{statement}
 use Rattle.plane_moments.proofs.accumulate.refusal.Tie as tie
 
 returns : tie.Need-returns
-unfolding framesRefusal
-returns c = rw (lt-ltb _ _ (c .if1 .taken))
+returns c = rw (plain-refusal, lt-ltb _ _ (c .if1 .taken))
 
 returns-2 : tie.Need-returns-2
-unfolding framesRefusal
-returns-2 c = rw (le-ltb _ _ (c .before .if1 .left), eq-eqb _ _ (c .if2 .taken))
+returns-2 c = rw (plain-refusal, le-ltb _ _ (c .before .if1 .left), eq-eqb _ _ (c .if2 .taken))
 
 returns-3 : tie.Need-returns-3
-unfolding framesRefusal
 returns-3 c =
     let b = c .before in
     let e = b .before in
-    rw (le-ltb _ _ (e .before .if1 .left), ne-eqb _ _ (e .if2 .left), sym (b .bad-lengths .ensures) ∙ c .if3 .taken)
+    rw (plain-refusal, le-ltb _ _ (e .before .if1 .left), ne-eqb _ _ (e .if2 .left), sym (b .bad-lengths .ensures) ∙ c .if3 .taken)
 
 returns-4 : tie.Need-returns-4
-unfolding framesRefusal
 returns-4 c =
     let p = c .before in
     let b = p .before .before in
     let e = b .before in
     let bad : not (finitePositive (e .before .before .before .before .before .before .before .args .sigma)) ≡ true = cc in
-    rw (le-ltb _ _ (e .before .if1 .left), ne-eqb _ _ (e .if2 .left), sym (b .bad-lengths .ensures) ∙ p .before .if3 .left, bad)
+    rw (plain-refusal, le-ltb _ _ (e .before .if1 .left), ne-eqb _ _ (e .if2 .left), sym (b .bad-lengths .ensures) ∙ p .before .if3 .left, bad)
 
 returns-5 : tie.Need-returns-5
-unfolding framesRefusal
 returns-5 c =
     let a = c .before in
     let p = a .before .before in
     let b = p .before .before in
     let e = b .before in
     rw (
+      plain-refusal,
       le-ltb _ _ (e .before .if1 .left),
       ne-eqb _ _ (e .if2 .left),
       sym (b .bad-lengths .ensures) ∙ p .before .if3 .left,
@@ -48,13 +44,14 @@ returns-5 c =
     )
 
 returns-6 : tie.Need-returns-6
-unfolding framesRefusal mapRefusal
+unfolding mapRefusal
 returns-6 c =
     let a = c .before .before in
     let p = a .before .before in
     let b = p .before .before in
     let e = b .before in
     rw (
+      plain-refusal,
       le-ltb _ _ (e .before .if1 .left),
       ne-eqb _ _ (e .if2 .left),
       sym (b .bad-lengths .ensures) ∙ p .before .if3 .left,

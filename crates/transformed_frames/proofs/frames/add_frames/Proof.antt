@@ -1,0 +1,71 @@
+-- `transformed_frames::frames::add_frames` meets its contract: after k turns the first k frames are added and their costs summed. Assumes nothing.
+use Prim.Native.Nat.{_≤_, _-_}
+use mathlib.Core.Path.{_≡_, refl, _∙_}
+use native.Mathlib.Omega.{arith}
+use borrow.Author.Needs.{needs}
+use lib.ListN.{length}
+use Rattle.frame_blocks.specs.Frames.{first-none}
+use Rattle.transformed_frames.specs.Frames.{Summed}
+use Rattle.transformed_frames.proofs.Laws.{summed-more, ready-fits, ready-there, ready-held, ready-square}
+use Rattle.transformed_frames.proofs.frames.add_frames.Statement.{statement}
+use Rattle.transformed_frames.proofs.frames.add_frames.Tie as tie
+
+abbrev Inv-loop : tie.InvT-loop
+Inv-loop h₀ g₀ dof frames actions map shapes transforms normal offset weight count sum₀ k₀ h g sum k =
+    (k ≤ count) × (length h ≡ length h₀) × (length g ≡ length g₀) × Summed (length g₀) dof frames actions map shapes transforms normal offset weight k sum h₀ h g₀ g
+
+abbrev μ-loop : tie.MeasureT-loop
+μ-loop h₀ g₀ dof frames actions map shapes transforms normal offset weight count sum₀ k₀ h g sum k = count - k
+
+loop-holds : tie.Need-loop-holds Inv-loop μ-loop
+loop-holds c = (search needs, refl, refl, first-none _ _ _ _ _ _)
+
+pull-at-requires : tie.Need-pull-at-requires Inv-loop μ-loop
+pull-at-requires c κs =
+    let start = c .before .before .before .before .before .before .before .before .before in
+    ready-held _ _ _ _ _ _ _ _ (start .pre .1) _ (omega arith)
+
+add-frame-requires : tie.Need-add-frame-requires Inv-loop μ-loop
+add-frame-requires c κs =
+    let l = c .before .before .before .before .before .before .loop in
+    let ready = c .before .before .before .before .before .before .before .before .before .before .before .before .before .before .pre .1 in (
+      ready .narrow,
+      ready-fits _ _ _ _ _ _ _ _ ready _ _ _ _ (l .inv .2) (c .before .before .before .lookup .ensures) (c .before .before .shape-at .ensures) (omega arith),
+      ready-square _ _ _ _ _ _ _ _ ready _ _ (l .inv .1) (l .inv .2),
+      ready-held _ _ _ _ _ _ _ _ ready _ (omega arith),
+      ready-there _ _ _ _ _ _ _ _ ready _ _ (c .before .before .shape-at .ensures),
+    )
+
+loop-again : tie.Need-loop-again Inv-loop μ-loop
+loop-again c =
+    let added = c .before .before .before .before .before in
+    let l = c .before .before .before .before .before .before .before .before .before .before .before .before .loop in (
+      search needs,
+      added .add-frame .kept .0 ∙ l .inv .1,
+      added .add-frame .kept .1 .0 ∙ l .inv .2,
+      summed-more _ _ _ _ _ _ _ _ _ _ (l .k) _ _ _ _ (l .sum) _ (l .h) _ _ (l .g) _ (l .inv .2) (c .before .before .before .before .before .before .before .before .before .lookup .ensures) (c .before .before .before .before .before .before .before .before .shape-at .ensures) (c .before .before .before .before .before .before .before .before .before .before .pull-at .ensures) (added .add-frame .ensures) (l .inv .3),
+    )
+
+returns : tie.Need-returns Inv-loop μ-loop
+returns c =
+    let l = c .before .loop in
+    let e : l .k ≡ c .before .before .before .before .before .before .before .before .before .args .count = omega arith in
+    rw e at (l .inv .3)
+
+pub add-frames-spec : {M : Type 1} → statement M
+add-frames-spec =
+    tie.close
+    (tie.spec
+    Inv-loop
+    μ-loop
+    loop-holds
+    pull-at-requires
+    (λ c κs. tt)
+    (λ c κs. tt)
+    add-frame-requires
+    (λ c. omega (arith, c .before .before .before .before .before .before .before .before .before .before .before .loop-test .taken, c .before .before .before .before .before .before .before .before .before .before .before .before .before .before .before .before .before .before .before .before .fits .count))
+    (λ c. search needs)
+    loop-again
+    (λ c. search needs)
+    (λ c. search needs)
+    returns)
