@@ -23,9 +23,10 @@ extern "C" {
 #define MAGHNELT_DECOMPOSITION 12 /* three eigenvalues, then their three vectors */
 #define MAGHNELT_MATCH 8          /* point (3), normal (3), offset, sigma */
 #define MAGHNELT_PLANE 4          /* normal (3), offset */
+#define MAGHNELT_TRANSFORM 81     /* a matrix of up to nine rows and nine columns, its columns first, and then numbers that are not read */
 
 /* The most that one call takes. */
-#define MAGHNELT_MAX_DOF 9        /* columns of an action's derivatives */
+#define MAGHNELT_MAX_DOF 9        /* columns of an action's derivatives, and of a transform */
 #define MAGHNELT_MAX_POINTS 65536
 #define MAGHNELT_MAX_FRAMES 256   /* frames of one plane */
 #define MAGHNELT_MAX_WORDS 1024   /* words of a block map or of an index list */
@@ -45,10 +46,12 @@ extern "C" {
  *  7  sigma is not finite and positive
  *  8  the actions are not MAGHNELT_ACTION numbers for each frame (one action, for a match list)
  *  9  a word of a map is above MAGHNELT_UNMAPPED
- * 10  a mapped frame's offset plus dof exceeds the order n of the Hessian
+ * 10  a mapped frame's offset plus dof, or plus its transform's columns, exceeds the order n of the Hessian
  * 11  a plane's normal has a norm that is not finite or not above 1e-12
  * 12  the point-to-plane variance is not finite and positive
  * 13  the fixed set's count is below 0 (in a strict build only)
+ * 14  a transform has more than 9 columns or not dof rows, or a further one not as many columns as the one it multiplies has
+ *     rows
  */
 
 /*
@@ -57,6 +60,15 @@ extern "C" {
  * the offset is a place in a map.
  */
 #define MAGHNELT_UNMAPPED UINT32_C(0x40000000)
+
+/*
+ * Beside a map may lie a transform for each word, or none: a matrix T of dof rows, in the same axes as the derivative columns
+ * of the frame's action, which says how the frame's parameters follow from those that are solved for. Its shape is two
+ * numbers, rows and columns, both MAGHNELT_NO_TRANSFORM where the word has none; T(r, c) is number rows * c + r of its
+ * MAGHNELT_TRANSFORM numbers. shapes has the shapes of word 0, of word 1 and so on, and transforms their numbers; both are
+ * empty where no word has a transform.
+ */
+#define MAGHNELT_NO_TRANSFORM UINT32_C(0xFFFFFFFF)
 
 /* ---- leaves ---- */
 
@@ -134,6 +146,21 @@ uint32_t maghnelt_point_to_plane_sigma(const double *plane, size_t plane_length,
 uint32_t maghnelt_remap(const uint32_t *map, size_t map_length, const uint32_t *list, size_t list_length, uint32_t *out,
                         size_t out_length);
 
+/*
+ * The transforms beside a map with a further one at a place: there the product of the further one with the one that was
+ * there, each entry the sum of its products in rising index, or the further one itself where there was none, and zeros behind
+ * it. Every other word has its shape and its MAGHNELT_TRANSFORM numbers as they came; where shapes and transforms are empty,
+ * no transform and zeros. A place past the map's end changes no word. further_shape has 2 numbers and further
+ * MAGHNELT_TRANSFORM; out_shapes has 2 numbers for each word of the map and out_transforms MAGHNELT_TRANSFORM. Refused by 1,
+ * 3, 9, and then by 14 if a word's transform has more than 9 columns, or the further one has more than 9 columns (none is no
+ * further transform), other than dof rows, or other columns than the one at the place has rows.
+ */
+uint32_t maghnelt_transform(uint32_t dof, const uint32_t *map, size_t map_length, const uint32_t *shapes,
+                            size_t shapes_length, const double *transforms, size_t transforms_length, uint32_t place,
+                            const uint32_t *further_shape, size_t further_shape_length, const double *further,
+                            size_t further_length, uint32_t *out_shapes, size_t out_shapes_length,
+                            double *out_transforms, size_t out_transforms_length);
+
 /* ---- frames of one plane: 1 to MAGHNELT_MAX_FRAMES frames, and a fixed set, of one frame or none (length 0) ---- */
 
 /*
@@ -183,6 +210,22 @@ uint32_t maghnelt_frames_accumulate(uint32_t dof, const double *frames, size_t f
                                     size_t gradient_length, double *cost);
 
 /*
+ * _accumulate with transforms beside the map: a mapped frame that has a transform T adds T^t M T and T^t v in place of its
+ * block M and its vector v, the left product first, each entry the sum of its products in rising index (+0 where there is
+ * none), to as many rows and columns from its offset on as T has columns. shapes has 2 numbers for each word of the map and
+ * transforms MAGHNELT_TRANSFORM; with both empty this is _accumulate. Refused by 1, 2, 3, 7, 8, 9, 14 and 10, in this order;
+ * 14 looks at every word, also at those of no frame.
+ */
+uint32_t maghnelt_frames_accumulate_transformed(uint32_t dof, const double *frames, size_t frames_length,
+                                                const double *fixed, size_t fixed_length, double sigma,
+                                                const double *actions, size_t actions_length,
+                                                const double *decomposition, size_t decomposition_length,
+                                                const uint32_t *map, size_t map_length, const uint32_t *shapes,
+                                                size_t shapes_length, const double *transforms,
+                                                size_t transforms_length, double *hessian, size_t hessian_length,
+                                                double *gradient, size_t gradient_length, double *cost);
+
+/*
  * Four residuals for each frame and four for the fixed set, zeros without one; and the Jacobian with as many rows, column
  * after column, dof columns for each frame; an empty Jacobian is not wanted. Every number is written, without a plane all
  * zeros. decompositions has the fit's, then one for each frame's scatter, then the fixed set's if there is one. Refused by
@@ -230,6 +273,18 @@ uint32_t maghnelt_bundle_linearize(uint32_t dof, const uint32_t *counts, size_t 
 uint32_t maghnelt_matches_accumulate(uint32_t dof, const double *matches, size_t matches_length, const double *action,
                                      size_t action_length, const uint32_t *map, size_t map_length, double *hessian,
                                      size_t hessian_length, double *gradient, size_t gradient_length, double *cost);
+
+/*
+ * _accumulate with transforms beside the map, as for frames: if word 0 has a transform T, the list adds T^t M T and T^t v, M
+ * and v being what its groups sum to. With shapes and transforms both empty this is _accumulate. Refused by 1, 2, 3, then
+ * match by match by 6 and 7, by 8, 9, 14 and 10, in this order; 14 looks at every word of the map.
+ */
+uint32_t maghnelt_matches_accumulate_transformed(uint32_t dof, const double *matches, size_t matches_length,
+                                                 const double *action, size_t action_length, const uint32_t *map,
+                                                 size_t map_length, const uint32_t *shapes, size_t shapes_length,
+                                                 const double *transforms, size_t transforms_length, double *hessian,
+                                                 size_t hessian_length, double *gradient, size_t gradient_length,
+                                                 double *cost);
 
 /*
  * The residual of each match, and the Jacobian, a row for each match and dof columns, column after column; an empty

@@ -2,7 +2,7 @@
 
 use crate::{
     frames_fit, slices, Action, BlockMap, Centred, Decomposition, FitSums, Linearized, Moments,
-    NormalEquations, Refusal, CENTRED, DECOMPOSITION, MOMENTS,
+    NormalEquations, Refusal, Transforms, CENTRED, DECOMPOSITION, MOMENTS,
 };
 
 /// One plane over several frames: the moments that each frame saw of it, tested and centred once, and evaluated at many
@@ -248,6 +248,73 @@ impl FrameFactor {
             Action::flattened(actions),
             &decomposition.record(),
             map.words(),
+            hessian,
+            gradient,
+            &mut cost,
+        )?;
+        Ok(cost)
+    }
+
+    /// [`accumulate`](FrameFactor::accumulate) with transforms beside the map: a frame that has a transform T adds Tᵀ·M·T and
+    /// Tᵀ·v in place of its block M and its vector v. Its segment is then as wide as T, and T has a row for each derivative
+    /// column of the frame's action, in the same axes. With [`Transforms::NONE`] this is `accumulate`, to the bit.
+    ///
+    /// # Errors
+    ///
+    /// [`Refusal::Length`] for an order above [`MAX_ORDER`](crate::MAX_ORDER), or if the transforms are neither
+    /// [`Transforms::NONE`] nor one or none for each word of the map; [`Refusal::Actions`] if the actions are not as many as
+    /// the frames; [`Refusal::Transform`] if some word's transform has not dof rows, also one of no frame;
+    /// [`Refusal::Segment`] if a frame's offset plus its width exceeds the order. The normal equations are then as they were.
+    ///
+    /// # Examples
+    ///
+    /// ```
+    /// use maghnelt::{
+    ///     Action, BlockMap, Decomposition, FrameFactor, Moments, NormalEquations, Transform, Transforms,
+    /// };
+    ///
+    /// # fn main() -> Result<(), maghnelt::Refusal> {
+    /// // The floor from two poses, the height of the first of which is locked: it has five rows, the second begins at row 5.
+    /// let corners = [[0.0, 0.0, 0.0], [2.0, 0.0, 0.0], [0.0, 2.0, 0.0], [2.0, 2.0, 0.0]];
+    /// let seen = Moments::from_points(&corners)?;
+    /// let factor = FrameFactor::new(6, &[seen, seen], None, 0.5)?;
+    /// let upright = [[1.0, 0.0, 0.0], [0.0, 1.0, 0.0], [0.0, 0.0, 1.0]];
+    /// let states = [Action::rigid(&upright, &[0.0; 3]); 2];
+    /// let floor = Decomposition { eigenvalues: [8.0, 8.0, 0.0], vectors: upright };
+    ///
+    /// let transforms = Transforms::new([Some(Transform::locked_height(&upright)), None])?;
+    /// let map = BlockMap::new([Some(0), Some(5)])?;
+    /// let mut normal = NormalEquations::zeros(11);
+    /// let cost = factor.accumulate_transformed(&states, &floor, &map, &transforms, &mut normal)?;
+    /// assert_eq!(cost, 0.0);
+    ///
+    /// // Of the first pose the turn about x is row 2, of the second row 8, with the height in row 7.
+    /// assert_eq!(normal.hessian(2, 2), 32.0);
+    /// assert_eq!(normal.hessian(8, 8), 32.0);
+    /// assert_eq!(normal.hessian(7, 7), 16.0);
+    /// # Ok(())
+    /// # }
+    /// ```
+    pub fn accumulate_transformed(
+        &self,
+        actions: &[Action],
+        decomposition: &Decomposition,
+        map: &BlockMap,
+        transforms: &Transforms,
+        normal: &mut NormalEquations,
+    ) -> Result<f64, Refusal> {
+        let mut cost = 0.0;
+        let (hessian, gradient) = normal.parts_mut();
+        slices::frames_accumulate_transformed(
+            self.dof,
+            Centred::flattened(&self.frames),
+            Centred::optional(self.fixed.as_ref()),
+            self.sigma,
+            Action::flattened(actions),
+            &decomposition.record(),
+            map.words(),
+            transforms.shapes(),
+            transforms.numbers(),
             hessian,
             gradient,
             &mut cost,

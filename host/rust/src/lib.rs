@@ -12,11 +12,13 @@
 //! | [`Plane::new`] | a plane with a unit normal |
 //! | [`point_to_plane_sigma`] | the standard deviation of a point's distance from a plane |
 //! | [`BlockMap`], [`BlockMap::remapped`] | where the frames of a factor go in the Hessian |
+//! | [`Transforms`], [`Transforms::transformed`] | how a frame's parameters follow from fewer, as where a height is locked |
 //! | [`FrameFactor`] | one plane over several frames, built once and then evaluated at many states |
 //! | [`FrameFactor::build_strict`] | the same, but a fixed set of a negative count is refused, as the survey rule asks |
 //! | [`frames_fit`] | the mean and the scatter that a plane is fitted to over several frames |
 //! | [`Bundle`] | one plane over several frames, point by point: centroid and scatter, a residual for each point |
 //! | [`MatchList`] | matches of points with planes on one pose: cost, normal equations, residuals |
+//! | [`FrameFactor::accumulate_transformed`], [`MatchList::accumulate_transformed`] | normal equations with transforms beside the map |
 //! | [`NormalEquations`] | the Hessian and the gradient that factors add to |
 //! | [`PlaneMatch::linearize`] | the residual of one match below its chain, and its derivatives |
 //! | [`sqrt`] | the correctly rounded square root, IEEE 754's squareRoot |
@@ -61,6 +63,7 @@ mod sizes;
 pub mod slices;
 mod square_root;
 mod total_order;
+mod transforms;
 
 pub use block_map::{BlockMap, UNMAPPED};
 pub use bundle::{Bundle, BundleFit};
@@ -74,7 +77,8 @@ pub use plane::{point_to_plane_sigma, Plane};
 pub use refusal::Refusal;
 pub use sizes::{
     ACTION, CENTRED, DECOMPOSITION, MATCH, MAX_DOF, MAX_FRAMES, MAX_MATCHES, MAX_ORDER, MAX_POINTS,
-    MAX_WORDS, MOMENTS, PLANE,
+    MAX_WORDS, MOMENTS, PLANE, TRANSFORM,
 };
 pub use square_root::sqrt;
 pub use total_order::total_order_key;
+pub use transforms::{Transform, Transforms, NO_TRANSFORM};

@@ -1,6 +1,8 @@
 //! Matches of points with planes of a map: a list of them on one pose, and one below its chain.
 
-use crate::{slices, Action, BlockMap, Linearized, NormalEquations, Plane, Refusal, MATCH};
+use crate::{
+    slices, Action, BlockMap, Linearized, NormalEquations, Plane, Refusal, Transforms, MATCH,
+};
 
 /// A point as the scanner saw it, the plane of the map that it is held against, and the standard deviation of its distance.
 #[derive(Clone, Copy, Debug, PartialEq)]
@@ -181,6 +183,70 @@ impl MatchList {
             self.records.as_flattened(),
             pose.as_array(),
             map.words(),
+            hessian,
+            gradient,
+            &mut cost,
+        )?;
+        Ok(cost)
+    }
+
+    /// [`accumulate`](MatchList::accumulate) with transforms beside the map: if frame 0 has a transform T, the list adds Tᵀ·M·T
+    /// and Tᵀ·v in place of its block M and its vector v. Its segment is then as wide as T, and T has a row for each
+    /// derivative column of the pose, in the same axes. With [`Transforms::NONE`] this is `accumulate`, to the bit.
+    ///
+    /// # Errors
+    ///
+    /// As [`accumulate`](MatchList::accumulate), the offset plus the segment's width counting in [`Refusal::Segment`];
+    /// [`Refusal::Length`] also if the transforms are neither [`Transforms::NONE`] nor one or none for each word of the map;
+    /// before [`Refusal::Segment`] comes [`Refusal::Transform`] if some word's transform has not dof rows.
+    ///
+    /// # Examples
+    ///
+    /// ```
+    /// use maghnelt::{Action, BlockMap, MatchList, NormalEquations, Plane, PlaneMatch, Transform, Transforms};
+    ///
+    /// # fn main() -> Result<(), maghnelt::Refusal> {
+    /// let wall = Plane { normal: [1.0, 0.0, 0.0], offset: 0.0 };
+    /// let floor = Plane { normal: [0.0, 0.0, 1.0], offset: 0.0 };
+    /// let seen = |plane| PlaneMatch { point: [0.0; 3], plane, sigma: 0.5 };
+    /// let matches = MatchList::new(6, [seen(wall), seen(floor)]);
+    ///
+    /// // The scanner stands three metres from the wall and one above the floor. Its height is locked.
+    /// let upright = [[1.0, 0.0, 0.0], [0.0, 1.0, 0.0], [0.0, 0.0, 1.0]];
+    /// let pose = Action::rigid(&upright, &[3.0, 0.0, 1.0]);
+    /// let locked = Transform::locked_height(&upright);
+    /// let transforms = Transforms::new([Some(locked)])?;
+    ///
+    /// // Five rows are enough, and the floor costs but pulls no more.
+    /// let mut normal = NormalEquations::zeros(5);
+    /// let map = BlockMap::new([Some(0)])?;
+    /// let cost = matches.accumulate_transformed(&pose, &map, &transforms, &mut normal)?;
+    /// assert_eq!(cost, 36.0 + 4.0);
+    /// assert_eq!(normal.gradient(), [12.0, 0.0, 0.0, 0.0, 0.0]);
+    ///
+    /// // The step of the pose's six parameters: to the wall, at the same height.
+    /// let along_x = -normal.gradient()[0] / normal.hessian(0, 0);
+    /// let step = locked.step(&[along_x, 0.0, 0.0, 0.0, 0.0])?;
+    /// assert_eq!(step, [-3.0, 0.0, 0.0, 0.0, 0.0, 0.0]);
+    /// # Ok(())
+    /// # }
+    /// ```
+    pub fn accumulate_transformed(
+        &self,
+        pose: &Action,
+        map: &BlockMap,
+        transforms: &Transforms,
+        normal: &mut NormalEquations,
+    ) -> Result<f64, Refusal> {
+        let mut cost = 0.0;
+        let (hessian, gradient) = normal.parts_mut();
+        slices::matches_accumulate_transformed(
+            self.dof,
+            self.records.as_flattened(),
+            pose.as_array(),
+            map.words(),
+            transforms.shapes(),
+            transforms.numbers(),
             hessian,
             gradient,
             &mut cost,

@@ -72,10 +72,11 @@ reasons! {
     7 Sigma "sigma is not finite and positive"
     8 Actions "the actions are not 120 numbers for each frame (one action, for a match list)"
     9 MapWord "a map word has a bad kind or a bad low part"
-    10 Segment "a mapped frame's offset plus dof exceeds the order n of the Hessian"
+    10 Segment "a mapped frame's offset plus dof, or plus its transform's columns, exceeds the order n of the Hessian"
     11 Normal "a plane's normal has a norm that is not finite or not above 1e-12"
     12 Variance "the point-to-plane variance is not finite and positive"
     13 FixedCount "the fixed set's count is below 0 (in a strict build only)"
+    14 Transform "a transform has more than 9 columns or not dof rows, or a further one not as many columns as the one it multiplies has rows"
 }
 
 impl fmt::Display for Refusal {
@@ -94,7 +95,7 @@ mod tests {
     fn only_0_is_accepted() {
         assert_eq!(Refusal::of_answer(0), Ok(()));
         assert_eq!(Refusal::of_answer(3), Err(Refusal::Length));
-        for answer in [1, 13, 14, u32::MAX] {
+        for answer in [1, 14, 15, u32::MAX] {
             assert_eq!(
                 Refusal::of_answer(answer).map_err(Refusal::number),
                 Err(answer)

@@ -12,8 +12,10 @@ pub const DECOMPOSITION: usize = 12;
 pub const MATCH: usize = 8;
 /// The numbers of a plane: normal (3), offset.
 pub const PLANE: usize = 4;
+/// The numbers of a transform: up to nine rows and nine columns, its columns first.
+pub const TRANSFORM: usize = 81;
 
-/// The most columns of an action's derivatives.
+/// The most columns of an action's derivatives, and of a transform.
 pub const MAX_DOF: usize = 9;
 /// The most points that one call takes.
 pub const MAX_POINTS: usize = 65_536;

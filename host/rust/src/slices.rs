@@ -223,6 +223,76 @@ pub fn remap(map: &[u32], list: &[u32], out: &mut [u32]) -> Result<(), Refusal> 
     })
 }
 
+/// Writes to `out_shapes` and `out_transforms` the transforms beside `map` with a further one at `place`: there the product
+/// of the further one with the one that was there, or the further one itself where there was none, and zeros behind it;
+/// at every other word shape and 81 numbers as they came. Where `shapes` and `transforms` are empty, no word had one. A
+/// place past the map's end changes no word.
+///
+/// A word's shape is its transform's rows and columns, both [`NO_TRANSFORM`](crate::NO_TRANSFORM) for none, and
+/// `further_shape` is the further one's. T(r, c) is number rows·c + r of the [`TRANSFORM`](crate::TRANSFORM) numbers; those
+/// behind its last column are not read.
+///
+/// # Errors
+///
+/// [`Refusal::Dof`]; [`Refusal::Length`]: `map` has more than [`MAX_WORDS`](crate::MAX_WORDS) words, `shapes` and
+/// `transforms` are neither both empty nor 2 and [`TRANSFORM`](crate::TRANSFORM) numbers for each word, the outputs are not
+/// as long as the latter, `further_shape` has not 2 numbers or `further` not [`TRANSFORM`](crate::TRANSFORM); then
+/// [`Refusal::MapWord`]; [`Refusal::Transform`]: a word's transform has more than 9 columns, or the further one has, or its
+/// rows are not `dof`, or its columns are not as many as the rows of the transform at `place`.
+///
+/// # Examples
+///
+/// ```
+/// use maghnelt::{slices, NO_TRANSFORM, TRANSFORM};
+///
+/// # fn main() -> Result<(), maghnelt::Refusal> {
+/// // Two frames of three parameters each. Of the second only the last two are left.
+/// let mut further = [0.0; TRANSFORM];
+/// further[..6].copy_from_slice(&[0.0, 1.0, 0.0, 0.0, 0.0, 1.0]);
+/// let mut shapes = [0; 4];
+/// let mut transforms = [0.0; 2 * TRANSFORM];
+/// slices::transform(3, &[0, 3], &[], &[], 1, &[3, 2], &further, &mut shapes, &mut transforms)?;
+/// assert_eq!(shapes, [NO_TRANSFORM, NO_TRANSFORM, 3, 2]);
+/// assert_eq!(transforms[TRANSFORM..], further);
+/// # Ok(())
+/// # }
+/// ```
+#[allow(clippy::too_many_arguments)]
+#[inline]
+pub fn transform(
+    dof: u32,
+    map: &[u32],
+    shapes: &[u32],
+    transforms: &[f64],
+    place: u32,
+    further_shape: &[u32],
+    further: &[f64],
+    out_shapes: &mut [u32],
+    out_transforms: &mut [f64],
+) -> Result<(), Refusal> {
+    // SAFETY: as said at the head of this file.
+    Refusal::of_answer(unsafe {
+        ffi::maghnelt_transform(
+            dof,
+            map.as_ptr(),
+            map.len(),
+            shapes.as_ptr(),
+            shapes.len(),
+            transforms.as_ptr(),
+            transforms.len(),
+            place,
+            further_shape.as_ptr(),
+            further_shape.len(),
+            further.as_ptr(),
+            further.len(),
+            out_shapes.as_mut_ptr(),
+            out_shapes.len(),
+            out_transforms.as_mut_ptr(),
+            out_transforms.len(),
+        )
+    })
+}
+
 /// Centres the moments `frames` and `fixed`, which is empty where there is none, into `centred_frames` and `centred_fixed`,
 /// and writes the number of points. A fixed set of a count at or below 0 is dropped: `fixed_dropped` becomes 1, otherwise 0,
 /// and `centred_fixed` is left as it was.
@@ -384,6 +454,60 @@ pub fn frames_accumulate(
     })
 }
 
+/// [`frames_accumulate`] with transforms beside the map: a frame whose word has a transform T adds Tᵀ·M·T and Tᵀ·v in place
+/// of its block M and its vector v, so that its segment has as many rows as T has columns. `shapes` and `transforms` are as
+/// in [`transform`]; where they are empty, this is [`frames_accumulate`].
+///
+/// # Errors
+///
+/// As [`frames_accumulate`], [`Refusal::Length`] also if `shapes` and `transforms` are neither both empty nor 2 and
+/// [`TRANSFORM`](crate::TRANSFORM) numbers for each word of `map`. Between [`Refusal::MapWord`] and [`Refusal::Segment`]
+/// comes [`Refusal::Transform`]: some word, also one of no frame, has a transform of more than 9 columns or of other than
+/// `dof` rows.
+#[allow(clippy::too_many_arguments)]
+#[inline]
+pub fn frames_accumulate_transformed(
+    dof: u32,
+    frames: &[f64],
+    fixed: &[f64],
+    sigma: f64,
+    actions: &[f64],
+    decomposition: &[f64],
+    map: &[u32],
+    shapes: &[u32],
+    transforms: &[f64],
+    hessian: &mut [f64],
+    gradient: &mut [f64],
+    cost: &mut f64,
+) -> Result<(), Refusal> {
+    // SAFETY: as said at the head of this file.
+    Refusal::of_answer(unsafe {
+        ffi::maghnelt_frames_accumulate_transformed(
+            dof,
+            frames.as_ptr(),
+            frames.len(),
+            fixed.as_ptr(),
+            fixed.len(),
+            sigma,
+            actions.as_ptr(),
+            actions.len(),
+            decomposition.as_ptr(),
+            decomposition.len(),
+            map.as_ptr(),
+            map.len(),
+            shapes.as_ptr(),
+            shapes.len(),
+            transforms.as_ptr(),
+            transforms.len(),
+            hessian.as_mut_ptr(),
+            hessian.len(),
+            gradient.as_mut_ptr(),
+            gradient.len(),
+            cost,
+        )
+    })
+}
+
 /// Writes four residuals for each frame and four for the fixed set and, if `jacobian` is not empty, their derivatives: as many
 /// rows, and `dof` columns for each frame, column after column. Without a plane they are all zeros. `decompositions` has the
 /// fit's, then one for each frame's scatter, then the fixed set's if there is one.
@@ -533,6 +657,52 @@ pub fn matches_accumulate(
             action.len(),
             map.as_ptr(),
             map.len(),
+            hessian.as_mut_ptr(),
+            hessian.len(),
+            gradient.as_mut_ptr(),
+            gradient.len(),
+            cost,
+        )
+    })
+}
+
+/// [`matches_accumulate`] with transforms beside the map: if word 0 has a transform T, the list adds Tᵀ·M·T and Tᵀ·v in place
+/// of its block M and its vector v, so that its segment has as many rows as T has columns. `shapes` and `transforms` are as
+/// in [`transform`]; where they are empty, this is [`matches_accumulate`].
+///
+/// # Errors
+///
+/// As [`matches_accumulate`], [`Refusal::Length`] also if `shapes` and `transforms` are neither both empty nor 2 and
+/// [`TRANSFORM`](crate::TRANSFORM) numbers for each word of `map`. Between [`Refusal::MapWord`] and [`Refusal::Segment`]
+/// comes [`Refusal::Transform`]: some word of `map`, not only the first, has a transform of more than 9 columns or of other
+/// than `dof` rows.
+#[allow(clippy::too_many_arguments)]
+#[inline]
+pub fn matches_accumulate_transformed(
+    dof: u32,
+    matches: &[f64],
+    action: &[f64],
+    map: &[u32],
+    shapes: &[u32],
+    transforms: &[f64],
+    hessian: &mut [f64],
+    gradient: &mut [f64],
+    cost: &mut f64,
+) -> Result<(), Refusal> {
+    // SAFETY: as said at the head of this file.
+    Refusal::of_answer(unsafe {
+        ffi::maghnelt_matches_accumulate_transformed(
+            dof,
+            matches.as_ptr(),
+            matches.len(),
+            action.as_ptr(),
+            action.len(),
+            map.as_ptr(),
+            map.len(),
+            shapes.as_ptr(),
+            shapes.len(),
+            transforms.as_ptr(),
+            transforms.len(),
             hessian.as_mut_ptr(),
             hessian.len(),
             gradient.as_mut_ptr(),

@@ -25,6 +25,7 @@ fn sizes_are_those_of_the_header() {
             ("DECOMPOSITION", maghnelt::DECOMPOSITION),
             ("MATCH", maghnelt::MATCH),
             ("PLANE", maghnelt::PLANE),
+            ("TRANSFORM", maghnelt::TRANSFORM),
             ("MAX_DOF", maghnelt::MAX_DOF),
             ("MAX_POINTS", maghnelt::MAX_POINTS),
             ("MAX_FRAMES", maghnelt::MAX_FRAMES),
@@ -33,4 +34,15 @@ fn sizes_are_those_of_the_header() {
             ("MAX_MATCHES", maghnelt::MAX_MATCHES),
         ]
     );
+}
+
+#[test]
+fn words_are_those_of_the_header() {
+    for (name, word) in [
+        ("UNMAPPED", maghnelt::UNMAPPED),
+        ("NO_TRANSFORM", maghnelt::NO_TRANSFORM),
+    ] {
+        let line = format!("#define MAGHNELT_{name} UINT32_C(0x{word:X})");
+        assert!(HEADER.lines().any(|said| said == line), "{line}");
+    }
 }
