@@ -1,8 +1,10 @@
 //! Slices of wrong lengths are refused, and everything that was lent is as it was, bit for bit.
 
+mod builds;
 mod lent;
 
-use lent::{bits, built, patterns, Build};
+use builds::{built, Build};
+use lent::{bits, patterns};
 use maghnelt::{
     slices, Refusal, ACTION, CENTRED, DECOMPOSITION, MATCH, MAX_FRAMES, MAX_ORDER, MAX_POINTS,
     MAX_WORDS, MOMENTS, PLANE, UNMAPPED,

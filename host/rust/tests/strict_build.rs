@@ -1,9 +1,11 @@
 //! Building by the survey rule, through the slices and through the type: what is refused where [`FrameFactor::new`] refuses
 //! for another reason or not at all, and that nothing else is different.
 
+mod builds;
 mod lent;
 
-use lent::{bits, built, Build, Outputs};
+use builds::{built, Build, Outputs};
+use lent::bits;
 use maghnelt::{slices, FrameFactor, Moments, Refusal, CENTRED, MAX_FRAMES, MOMENTS};
 
 /// A set of that count, the points being at the origin.
