@@ -112,6 +112,53 @@ static void block_maps(void) {
     expect(out[3] == MAGHNELT_UNMAPPED && out[4] == MAGHNELT_UNMAPPED, "words that go nowhere");
 }
 
+/* What a further transform is written to. */
+static uint32_t out_shapes[4];
+static double out_transforms[2 * MAGHNELT_TRANSFORM];
+
+/*
+ * A further transform of so many columns at a place of a map of two words: the first has a transform of three rows, the second
+ * none, but a number where one would be. With no shapes or no transforms the slices are empty.
+ */
+static uint32_t further(uint32_t dof, const uint32_t map[2], size_t shapes, size_t transforms, uint32_t place, uint32_t columns) {
+    const uint32_t beside[] = {3, 1, MAGHNELT_NO_TRANSFORM, MAGHNELT_NO_TRANSFORM};
+    double numbers[2 * MAGHNELT_TRANSFORM] = {1, 10, 100, 7};
+    const uint32_t shape[] = {2, columns};
+    const double entries[MAGHNELT_TRANSFORM] = {1, 2, 3, 4, 5, 6, 7};
+
+    numbers[MAGHNELT_TRANSFORM] = 8;
+    return maghnelt_transform(dof, map, 2, beside, shapes, numbers, transforms, place, SLICE(shape), SLICE(entries),
+                              SLICE(out_shapes), SLICE(out_transforms));
+}
+
+static void transform(void) {
+    const uint32_t map[] = {0, MAGHNELT_UNMAPPED};
+    const uint32_t bad[] = {0, MAGHNELT_UNMAPPED + 1};
+    const size_t all = 2 * MAGHNELT_TRANSFORM;
+
+    out_shapes[0] = 7;
+    out_transforms[0] = 9;
+    expect(further(10, bad, 4, 0, 0, 2) == 1, "a further transform for dof 10 is refused");
+    expect(further(2, bad, 4, 0, 0, 2) == 3, "shapes without transforms are refused");
+    expect(further(2, bad, 4, all, 0, 2) == 9, "a bad word beside transforms is refused");
+    expect(further(2, map, 4, all, 0, 2) == 14, "two columns over three rows are refused");
+    expect(out_shapes[0] == 7 && out_transforms[0] == 9, "a refused further transform writes nothing");
+
+    expect(further(2, map, 4, all, 0, 3) == 0, "a further transform is accepted");
+    expect(out_shapes[0] == 2 && out_shapes[1] == 1 && out_transforms[0] == 531 && out_transforms[1] == 642,
+           "it multiplies from the left");
+    expect(out_transforms[2] == 0 && out_transforms[3] == 0, "behind the product are zeros");
+    expect(out_shapes[2] == MAGHNELT_NO_TRANSFORM && out_shapes[3] == MAGHNELT_NO_TRANSFORM &&
+               out_transforms[MAGHNELT_TRANSFORM] == 8,
+           "the other word is as it came");
+
+    expect(further(2, map, 0, 0, 1, 3) == 0, "a first transform is accepted");
+    expect(out_shapes[0] == MAGHNELT_NO_TRANSFORM && out_transforms[0] == 0, "no other word has one");
+    expect(out_shapes[2] == 2 && out_shapes[3] == 3 && out_transforms[MAGHNELT_TRANSFORM + 5] == 6 &&
+               out_transforms[MAGHNELT_TRANSFORM + 6] == 0,
+           "it is taken as it is, with zeros behind it");
+}
+
 /* The moments of the corners of a square on the floor. */
 static const double square[MAGHNELT_MOMENTS] = {4, 4, 4, 0, 8, 4, 0, 4, 8, 0, 0, 0, 0};
 
@@ -237,6 +284,51 @@ static void frame_factor(void) {
            "without a plane all residuals are zeros");
 }
 
+/* What the calls below are lent. */
+static double lent_hessian[4];
+static double lent_gradient[2];
+static double lent_cost;
+
+/*
+ * A frame whose block is (1, 4), (3, 5) by columns and whose vector is (5, 6), at an offset, beside a map of two words: the
+ * frame's transform is (1, 2), the other one has so many columns. With no shapes the transforms are empty too.
+ */
+static uint32_t frame_transformed(uint32_t offset, size_t shapes, uint32_t columns) {
+    const double frames[MAGHNELT_CENTRED] = {1, 0, 0, 0, 1, 4, 0, 3, 5, 0, 5, 6, 7};
+    const double none[1] = {0};
+    double actions[MAGHNELT_ACTION] = {0, 1, 0, 0, 0, 1, 1};
+    const double decomposition[MAGHNELT_DECOMPOSITION] = {0, 1, 2, 1, 0, 0, 0, 1, 0, 0, 0, 1};
+    const uint32_t map[] = {offset, MAGHNELT_UNMAPPED};
+    const uint32_t beside[] = {2, 1, 2, columns};
+    const double transforms[2 * MAGHNELT_TRANSFORM] = {1, 2, 7};
+
+    actions[39] = 1;
+    actions[69] = 1;
+    return maghnelt_frames_accumulate_transformed(2, SLICE(frames), none, 0, 1.0, SLICE(actions), SLICE(decomposition),
+                                                  SLICE(map), beside, shapes, transforms,
+                                                  shapes == 0 ? 0 : 2 * MAGHNELT_TRANSFORM, SLICE(lent_hessian),
+                                                  SLICE(lent_gradient), &lent_cost);
+}
+
+static void frames_transformed(void) {
+    lent_hessian[0] = lent_hessian[1] = lent_hessian[2] = lent_hessian[3] = 100;
+    lent_gradient[0] = lent_gradient[1] = 10;
+    lent_cost = 9;
+    expect(frame_transformed(2, 3, 10) == 3, "shapes that are too few are refused");
+    expect(frame_transformed(2, 4, 10) == 14, "a transform of ten columns is refused, also of a word without a frame");
+    expect(frame_transformed(2, 4, 9) == 10, "a row past the end is refused");
+    expect(lent_hessian[3] == 100 && lent_gradient[1] == 10 && lent_cost == 9, "a refused frame writes nothing");
+
+    expect(frame_transformed(1, 4, 9) == 0 && lent_cost == 7, "a frame with a transform is accepted");
+    expect(lent_hessian[3] == 135 && lent_gradient[1] == 27, "its block and its vector between the transform are added");
+    expect(lent_hessian[0] == 100 && lent_hessian[1] == 100 && lent_hessian[2] == 100 && lent_gradient[0] == 10,
+           "to one row alone");
+    expect(frame_transformed(1, 0, 9) == 10, "without transforms two rows are needed");
+    expect(frame_transformed(0, 0, 9) == 0 && lent_hessian[0] == 101 && lent_hessian[1] == 104 && lent_hessian[2] == 103 &&
+               lent_hessian[3] == 140 && lent_gradient[0] == 15 && lent_gradient[1] == 33,
+           "without transforms block and vector are added as they are");
+}
+
 /* The corners of a square on the floor and a point above it. */
 static void bundle_fit(void) {
     const uint32_t counts[] = {4};
@@ -326,6 +418,31 @@ static void matches(void) {
            "the first bad match decides");
 }
 
+/* A match of the residual 2 and the row (3, 5), with one parameter in place of two. */
+static void matches_transformed(void) {
+    const double list[MAGHNELT_MATCH] = {2, 0, 0, 1, 0, 0, 0, 1};
+    double action[MAGHNELT_ACTION] = {1, 0, 0, 0, 1, 0, 0, 0, 1, 0, 0, 0, 3, 0, 0, 5};
+    const uint32_t map[] = {0};
+    uint32_t shapes[] = {3, 1};
+    const double transforms[MAGHNELT_TRANSFORM] = {1, 2, 7};
+    double hessian[1] = {100};
+    double gradient[1] = {10};
+    double cost = 9;
+
+    expect(maghnelt_matches_accumulate_transformed(2, SLICE(list), SLICE(action), SLICE(map), SLICE(shapes), SLICE(transforms),
+                                                   SLICE(hessian), SLICE(gradient), &cost) == 14 &&
+               cost == 9 && hessian[0] == 100 && gradient[0] == 10,
+           "a transform of three rows is refused");
+    expect(maghnelt_matches_accumulate_transformed(2, SLICE(list), SLICE(action), SLICE(map), shapes, 0, transforms, 0,
+                                                   SLICE(hessian), SLICE(gradient), &cost) == 10,
+           "two parameters have no room in one row");
+    shapes[0] = 2;
+    expect(maghnelt_matches_accumulate_transformed(2, SLICE(list), SLICE(action), SLICE(map), SLICE(shapes), SLICE(transforms),
+                                                   SLICE(hessian), SLICE(gradient), &cost) == 0 &&
+               cost == 4 && hessian[0] == 269 && gradient[0] == 36,
+           "a list's block and vector between a transform are added");
+}
+
 static void one_match(void) {
     const double match[MAGHNELT_MATCH] = {0, 0, 0, 3, 3, 3, 1, 3};
     const double bad[MAGHNELT_MATCH] = {0, 0, NAN, 3, 3, 3, 1, 3};
@@ -354,13 +471,16 @@ int main(void) {
     no_answer();
     planes();
     block_maps();
+    transform();
     build();
     build_strict();
     fit();
     frame_factor();
+    frames_transformed();
     bundle_fit();
     bundle_linearize();
     matches();
+    matches_transformed();
     one_match();
     return failures != 0;
 }
