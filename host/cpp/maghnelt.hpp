@@ -12,6 +12,8 @@
 #include <Eigen/Core>
 #include <Eigen/Eigenvalues>
 
+#include <algorithm>
+#include <array>
 #include <cstddef>
 #include <cstdint>
 #include <optional>
@@ -43,13 +45,15 @@ inline const char *reason_text(std::uint32_t reason) noexcept {
     case 9:
         return "a map word has a bad kind or a bad low part";
     case 10:
-        return "a mapped frame's offset plus dof exceeds the order n of the Hessian";
+        return "a mapped frame's offset plus dof, or plus its transform's columns, exceeds the order n of the Hessian";
     case 11:
         return "a plane's normal has a norm that is not finite or not above 1e-12";
     case 12:
         return "the point-to-plane variance is not finite and positive";
     case 13:
         return "the fixed set's count is below 0 (in a strict build only)";
+    case 14:
+        return "a transform has more than 9 columns or not dof rows, or a further one not as many columns as the one it multiplies has rows";
     default:
         return "one that this version of the header does not know";
     }
@@ -250,6 +254,88 @@ class BlockMap {
     std::vector<std::uint32_t> list;
 };
 
+// ---- transforms beside a map: how a frame's parameters follow from those that are solved for ----
+
+// A matrix T of dof rows for each word of a map, or none. The rows are in the same axes as the derivative columns of the frame's
+// action. A frame adds T^t M T and T^t v in place of its block M and its vector v, so that its segment is as wide as T: the map's
+// offsets leave room for T's columns, and the frame's step is T times its part of the solution.
+class Transforms {
+  public:
+    // No word of any map has one.
+    Transforms() = default;
+    // A matrix or none for each word. One of more than nine rows or columns is refused by 14.
+    explicit Transforms(const std::vector<std::optional<Eigen::MatrixXd>> &of_words) {
+        for (const std::optional<Eigen::MatrixXd> &matrix : of_words) {
+            const Record record = matrix ? Record(*matrix) : Record();
+            sizes.insert(sizes.end(), record.shape.begin(), record.shape.end());
+            entries.insert(entries.end(), record.numbers.data(), record.numbers.data() + MAGHNELT_TRANSFORM);
+        }
+    }
+
+    // These with a further one at a place of the map: it multiplies the one that is there from the left, or is taken where there is
+    // none. With the total T = further * old a frame adds T^t M T.
+    Transforms transformed(std::uint32_t dof, const BlockMap &map, std::uint32_t place, const Eigen::MatrixXd &further) const {
+        const Record record(further);
+        Transforms out(std::vector<std::optional<Eigen::MatrixXd>>(map.words().size()));
+        detail::accept(maghnelt_transform(dof, MAGHNELT_LENT(map.words()), MAGHNELT_LENT(sizes), MAGHNELT_LENT(entries), place,
+                                          MAGHNELT_LENT(record.shape), MAGHNELT_LENT(record.numbers), MAGHNELT_LENT(out.sizes),
+                                          MAGHNELT_LENT(out.entries)));
+        return out;
+    }
+
+    // The transform of a word, if it has one.
+    std::optional<Eigen::MatrixXd> transform(std::size_t word) const {
+        if (!has(word)) {
+            return std::nullopt;
+        }
+        return Eigen::Map<const Eigen::MatrixXd>(entries.data() + MAGHNELT_TRANSFORM * word, sizes[2 * word], sizes[2 * word + 1]);
+    }
+
+    // How wide the segment of a word is.
+    Eigen::Index width(std::uint32_t dof, std::size_t word) const { return has(word) ? sizes[2 * word + 1] : dof; }
+
+    // Shapes and numbers as they are handed to the library.
+    const std::vector<std::uint32_t> &shapes() const { return sizes; }
+    const std::vector<double> &numbers() const { return entries; }
+
+  private:
+    // A matrix as the library takes it, or none.
+    struct Record {
+        std::array<std::uint32_t, 2> shape{MAGHNELT_NO_TRANSFORM, MAGHNELT_NO_TRANSFORM};
+        Eigen::Matrix<double, MAGHNELT_TRANSFORM, 1> numbers = Eigen::Matrix<double, MAGHNELT_TRANSFORM, 1>::Zero();
+
+        Record() = default;
+        explicit Record(const Eigen::MatrixXd &matrix)
+            : shape{static_cast<std::uint32_t>(matrix.rows()), static_cast<std::uint32_t>(matrix.cols())} {
+            // Numbers that find no place are those of a matrix that is refused below.
+            std::copy_n(matrix.data(), std::min<Eigen::Index>(matrix.size(), MAGHNELT_TRANSFORM), numbers.data());
+            // The library's own tests, beside a map of no words. No dof has more rows than the most.
+            const std::uint32_t dof = std::min<std::uint32_t>(shape[0], MAGHNELT_MAX_DOF);
+            std::vector<std::uint32_t> words;
+            std::vector<double> none;
+            detail::accept(maghnelt_transform(dof, MAGHNELT_LENT(words), MAGHNELT_LENT(words), MAGHNELT_LENT(none), 0,
+                                              MAGHNELT_LENT(shape), MAGHNELT_LENT(numbers), MAGHNELT_LENT(words), MAGHNELT_LENT(none)));
+        }
+    };
+
+    bool has(std::size_t word) const {
+        return 2 * word < sizes.size() && (sizes[2 * word] != MAGHNELT_NO_TRANSFORM || sizes[2 * word + 1] != MAGHNELT_NO_TRANSFORM);
+    }
+
+    std::vector<std::uint32_t> sizes;
+    std::vector<double> entries;
+};
+
+// The transform that locks the height of a pose as in Action::rigid, a shift r and then a turn, both in the frame's own axes: a step
+// lifts the pose by (R r)_z, so that the shifts that are left are R^t e_x and R^t e_y. It belongs to this rotation, and is made anew
+// at each step.
+inline Eigen::Matrix<double, 6, 5> locked_height(const Eigen::Matrix3d &rotation) {
+    Eigen::Matrix<double, 6, 5> locked = Eigen::Matrix<double, 6, 5>::Zero();
+    locked.topLeftCorner<3, 2>() = rotation.transpose().leftCols<2>();
+    locked.bottomRightCorner<3, 3>().setIdentity();
+    return locked;
+}
+
 // ---- actions: p -> A p + b, and its derivatives by the state's parameters ----
 
 // An action a column.
@@ -336,6 +422,17 @@ class FrameFactor {
         detail::accept(maghnelt_frames_accumulate(width, MAGHNELT_LENT(own), MAGHNELT_LENT(known), noise, MAGHNELT_LENT(actions),
                                                   MAGHNELT_LENT(fitted.record()), MAGHNELT_LENT(map.words()), MAGHNELT_LENT(hessian),
                                                   MAGHNELT_LENT(gradient), &cost));
+        return cost;
+    }
+
+    // The same with transforms beside the map.
+    double accumulate_transformed(const Actions &actions, const Decomposition &fitted, const BlockMap &map, const Transforms &transforms,
+                                  Eigen::MatrixXd &hessian, Eigen::VectorXd &gradient) const {
+        double cost = 0.0;
+        detail::accept(maghnelt_frames_accumulate_transformed(
+            width, MAGHNELT_LENT(own), MAGHNELT_LENT(known), noise, MAGHNELT_LENT(actions), MAGHNELT_LENT(fitted.record()),
+            MAGHNELT_LENT(map.words()), MAGHNELT_LENT(transforms.shapes()), MAGHNELT_LENT(transforms.numbers()), MAGHNELT_LENT(hessian),
+            MAGHNELT_LENT(gradient), &cost));
         return cost;
     }
 
@@ -458,6 +555,16 @@ inline double matches_accumulate(std::uint32_t dof, const Matches &matches, cons
     double cost = 0.0;
     detail::accept(maghnelt_matches_accumulate(dof, MAGHNELT_LENT(matches), MAGHNELT_LENT(action.record()), MAGHNELT_LENT(map.words()),
                                                MAGHNELT_LENT(hessian), MAGHNELT_LENT(gradient), &cost));
+    return cost;
+}
+
+// The same with transforms beside the map.
+inline double matches_accumulate_transformed(std::uint32_t dof, const Matches &matches, const Action &action, const BlockMap &map,
+                                             const Transforms &transforms, Eigen::MatrixXd &hessian, Eigen::VectorXd &gradient) {
+    double cost = 0.0;
+    detail::accept(maghnelt_matches_accumulate_transformed(
+        dof, MAGHNELT_LENT(matches), MAGHNELT_LENT(action.record()), MAGHNELT_LENT(map.words()), MAGHNELT_LENT(transforms.shapes()),
+        MAGHNELT_LENT(transforms.numbers()), MAGHNELT_LENT(hessian), MAGHNELT_LENT(gradient), &cost));
     return cost;
 }
 
