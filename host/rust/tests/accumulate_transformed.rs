@@ -16,17 +16,17 @@ const X: [f64; 3] = UNIT[0];
 /// What an accumulating call takes besides dof, map, transforms and target.
 #[derive(Clone)]
 enum Factor {
-    Frames {
-        frames: Vec<f64>,
-        fixed: Vec<f64>,
-        sigma: f64,
-        actions: Vec<f64>,
-        decomposition: Vec<f64>,
-    },
-    Matches {
-        matches: Vec<f64>,
-        action: Vec<f64>,
-    },
+    Frames(Frames),
+    Matches { matches: Vec<f64>, action: Vec<f64> },
+}
+
+#[derive(Clone)]
+struct Frames {
+    frames: Vec<f64>,
+    fixed: Vec<f64>,
+    sigma: f64,
+    actions: Vec<f64>,
+    decomposition: Vec<f64>,
 }
 
 /// A Hessian, a gradient and a cost that are lent.
@@ -54,6 +54,10 @@ impl Target {
         }
     }
 
+    fn parts(&mut self) -> (&mut [f64], &mut [f64], &mut f64) {
+        (&mut self.hessian, &mut self.gradient, &mut self.cost)
+    }
+
     fn bits(&self) -> [Vec<u64>; 3] {
         [
             bits(&self.hessian),
@@ -65,7 +69,7 @@ impl Target {
 
 /// One frame of the plane x = 0 whose block is that scatter and whose vector is the scatter's last column, up to the dof.
 /// It costs the scatter's last number.
-fn frame(scatter: [[f64; 3]; 3]) -> Factor {
+fn frame(scatter: [[f64; 3]; 3]) -> Frames {
     let mut record = vec![1.0, 0.0, 0.0, 0.0];
     record.extend(scatter.as_flattened());
     // The normal is (0, 0, 1) in the frame, and parameter k turns axis k along x.
@@ -74,7 +78,7 @@ fn frame(scatter: [[f64; 3]; 3]) -> Factor {
     let axes: [&[[f64; 3]]; 3] = [&[X], &[zero, X], &[zero, zero, X]];
     let mut decomposition = vec![0.0, 1.0, 2.0];
     decomposition.extend(UNIT.as_flattened());
-    Factor::Frames {
+    Frames {
         frames: record,
         fixed: Vec::new(),
         sigma: 1.0,
@@ -104,25 +108,15 @@ impl Factor {
     ) -> Result<(), Refusal> {
         let before = target.bits();
         let Beside { shapes, transforms } = beside;
-        let Target {
-            hessian,
-            gradient,
-            cost,
-        } = target;
+        let (hessian, gradient, cost) = target.parts();
         let answer = match self {
-            Factor::Frames {
-                frames,
-                fixed,
-                sigma,
-                actions,
-                decomposition,
-            } => slices::frames_accumulate_transformed(
+            Factor::Frames(own) => slices::frames_accumulate_transformed(
                 dof,
-                frames,
-                fixed,
-                *sigma,
-                actions,
-                decomposition,
+                &own.frames,
+                &own.fixed,
+                own.sigma,
+                &own.actions,
+                &own.decomposition,
                 map,
                 shapes,
                 transforms,
@@ -142,25 +136,15 @@ impl Factor {
 
     /// The call that knows no transforms.
     fn accumulate_plain(&self, dof: u32, map: &[u32], target: &mut Target) -> Result<(), Refusal> {
-        let Target {
-            hessian,
-            gradient,
-            cost,
-        } = target;
+        let (hessian, gradient, cost) = target.parts();
         match self {
-            Factor::Frames {
-                frames,
-                fixed,
-                sigma,
-                actions,
-                decomposition,
-            } => slices::frames_accumulate(
+            Factor::Frames(own) => slices::frames_accumulate(
                 dof,
-                frames,
-                fixed,
-                *sigma,
-                actions,
-                decomposition,
+                &own.frames,
+                &own.fixed,
+                own.sigma,
+                &own.actions,
+                &own.decomposition,
                 map,
                 hessian,
                 gradient,
@@ -181,12 +165,11 @@ impl Factor {
     }
 }
 
+const SCATTER: [[f64; 3]; 3] = [[1.0, 4.0, 9.0], [3.0, 5.0, 9.0], [5.0, 6.0, 7.0]];
+
 /// A frame and a match list with numbers of no special kind.
 fn both() -> [Factor; 2] {
-    [
-        frame([[1.0, 4.0, 9.0], [3.0, 5.0, 9.0], [5.0, 6.0, 7.0]]),
-        one_match(&[3.0, 5.0], 2.0),
-    ]
+    [Factor::Frames(frame(SCATTER)), one_match(&[3.0, 5.0], 2.0)]
 }
 
 #[test]
@@ -309,7 +292,7 @@ fn the_left_product_comes_first() {
     let [large, small] = [600, -600].map(|power| 2_f64.powi(power));
     let infinite = f64::INFINITY;
     for factor in [
-        frame([[large, 0.0, 0.0], [0.0; 3], [0.0; 3]]),
+        Factor::Frames(frame([[large, 0.0, 0.0], [0.0; 3], [0.0; 3]])),
         one_match(&[2_f64.powi(300)], 0.0),
     ] {
         let after = factor.alone(1, 0, ([1, 2], &[large, small]), 2, 0.0);
@@ -321,7 +304,10 @@ fn the_left_product_comes_first() {
 #[test]
 fn products_are_added_in_rising_index() {
     let large = 2_f64.powi(53);
-    for factor in [frame([[1.0; 3]; 3]), one_match(&[1.0; 3], 1.0)] {
+    for factor in [
+        Factor::Frames(frame([[1.0; 3]; 3])),
+        one_match(&[1.0; 3], 1.0),
+    ] {
         let after = factor.alone(3, 0, ([3, 1], &[large, 1.0, 1.0]), 1, 0.0);
         // An odd number behind 2^53 is a tie, and goes to the even one below: each 1 is lost.
         assert_eq!(after.gradient, [large]);
@@ -336,7 +322,7 @@ fn products_are_added_in_rising_index() {
 /// A sum begins with its first product, which may be −0.
 #[test]
 fn products_are_added_from_the_first() {
-    for factor in [frame([[0.0; 3]; 3]), one_match(&[0.0], 1.0)] {
+    for factor in [Factor::Frames(frame([[0.0; 3]; 3])), one_match(&[0.0], 1.0)] {
         let after = factor.alone(1, 0, ([1, 2], &[-1.0, 1.0]), 2, -0.0);
         assert_eq!(bits(&after.hessian), bits(&[0.0, -0.0, -0.0, 0.0]));
         assert_eq!(bits(&after.gradient), bits(&[-0.0, 0.0]));
@@ -350,9 +336,6 @@ fn wave(length: usize, step: f64) -> Vec<f64> {
 
 /// Two frames and a fixed set, and a list of more than one group.
 fn rich() -> [Factor; 2] {
-    let Factor::Frames { decomposition, .. } = &both()[0] else {
-        unreachable!()
-    };
     let record = |k: usize| {
         let mut record = wave(13, 0.7 + k as f64);
         record[0] = 5.0 + k as f64;
@@ -361,13 +344,13 @@ fn rich() -> [Factor; 2] {
     let mut matches = wave(MATCH * 700, 0.37);
     matches.chunks_mut(MATCH).for_each(|one| one[7] = 0.5);
     [
-        Factor::Frames {
+        Factor::Frames(Frames {
             frames: [record(0), record(1)].concat(),
             fixed: record(2),
             sigma: 0.3,
             actions: wave(2 * ACTION, 0.11),
-            decomposition: decomposition.clone(),
-        },
+            decomposition: frame(SCATTER).decomposition,
+        }),
         Factor::Matches {
             matches,
             action: wave(ACTION, 0.23),
@@ -536,47 +519,52 @@ fn half_a_shape_of_none_is_a_bad_shape() {
     }
 }
 
+/// The answer beside a map with slices of these lengths, which say that no word has a transform.
+fn of_lengths(
+    factor: &Factor,
+    map: &[u32],
+    shapes: usize,
+    transforms: usize,
+) -> Result<(), Refusal> {
+    let beside = Beside {
+        shapes: vec![NO_TRANSFORM; shapes],
+        transforms: patterns(transforms),
+    };
+    factor.accumulate(2, map, &beside, &mut Target::patterned(3))
+}
+
 #[test]
 fn two_and_81_numbers_a_word_or_none() {
-    let counts = |words: usize, numbers: usize| {
-        [
-            0,
-            1,
-            numbers,
-            words * numbers - 1,
-            words * numbers,
-            words * numbers + 1,
-        ]
-    };
+    let bad_word = [UNMAPPED + 1, 0];
     for factor in both() {
-        let answer = |map: &[u32], shapes: usize, transforms: usize| {
-            let beside = Beside {
-                shapes: vec![NO_TRANSFORM; shapes],
-                transforms: patterns(transforms),
-            };
-            factor.accumulate(2, map, &beside, &mut Target::patterned(3))
-        };
-        for shapes in counts(2, 2) {
-            for transforms in counts(2, TRANSFORM) {
-                let right = [(0, 0), (4, 2 * TRANSFORM)].contains(&(shapes, transforms));
-                let bad_word = [UNMAPPED + 1, 0];
-                let expected = if right {
-                    Refusal::MapWord
-                } else {
-                    Refusal::Length
+        for shapes in [0, 1, 2, 3, 4, 5] {
+            for transforms in [0, 1, 81, 161, 162, 163] {
+                let expected = match (shapes, transforms) {
+                    (0, 0) | (4, 162) => Refusal::MapWord,
+                    _ => Refusal::Length,
                 };
-                assert_eq!(answer(&bad_word, shapes, transforms), Err(expected));
+                let answer = of_lengths(&factor, &bad_word, shapes, transforms);
+                assert_eq!(answer, Err(expected), "{shapes} and {transforms}");
             }
         }
         // Beside no words both are empty.
-        assert_eq!(answer(&[], 2, TRANSFORM), Err(Refusal::Length));
-        assert_eq!(answer(&[], 0, TRANSFORM), Err(Refusal::Length));
-        assert_eq!(answer(&[], 0, 0), Ok(()));
-        // The most words, and one more.
+        for lengths in [(2, TRANSFORM), (0, TRANSFORM), (2, 0)] {
+            let answer = of_lengths(&factor, &[], lengths.0, lengths.1);
+            assert_eq!(answer, Err(Refusal::Length));
+        }
+        assert_eq!(of_lengths(&factor, &[], 0, 0), Ok(()));
+    }
+}
+
+#[test]
+fn as_many_words_as_allowed_and_no_more() {
+    for factor in both() {
         for (words, expected) in [(MAX_WORDS, Ok(())), (MAX_WORDS + 1, Err(Refusal::Length))] {
             let map = vec![UNMAPPED; words];
-            assert_eq!(answer(&map, 2 * words, TRANSFORM * words), expected);
-            assert_eq!(answer(&map, 0, 0), expected);
+            for [shapes, transforms] in [[2 * words, TRANSFORM * words], [0, 0]] {
+                let answer = of_lengths(&factor, &map, shapes, transforms);
+                assert_eq!(answer, expected);
+            }
         }
     }
 }
@@ -584,25 +572,14 @@ fn two_and_81_numbers_a_word_or_none() {
 /// Each reason of the frames' call with those after it.
 #[test]
 fn reasons_of_frames() {
-    let [factor, _] = both();
     let call = |dof: u32, [frames, actions, decomposition]: [usize; 3], sigma: f64| {
-        let mut factor = factor.clone();
-        let Factor::Frames {
-            frames: of_frames,
-            sigma: of_sigma,
-            actions: of_actions,
-            decomposition: of_decomposition,
-            ..
-        } = &mut factor
-        else {
-            unreachable!()
-        };
-        of_frames.resize(frames, 0.0);
-        of_actions.resize(actions, 0.0);
-        of_decomposition.resize(decomposition, 0.0);
-        *of_sigma = sigma;
+        let mut own = frame(SCATTER);
+        own.frames.resize(frames, 0.0);
+        own.actions.resize(actions, 0.0);
+        own.decomposition.resize(decomposition, 0.0);
+        own.sigma = sigma;
         let wide = Beside::of(&[([2, 10], &[])]);
-        factor.accumulate(dof, &[9], &wide, &mut Target::patterned(3))
+        Factor::Frames(own).accumulate(dof, &[9], &wide, &mut Target::patterned(3))
     };
     let right = [13, ACTION, DECOMPOSITION];
     assert_eq!(call(10, [0, 0, 0], 0.0), Err(Refusal::Dof));
@@ -641,11 +618,9 @@ fn reasons_of_matches() {
 
 #[test]
 fn without_a_plane_the_transforms_are_tested_too() {
-    let [mut factor, _] = both();
-    let Factor::Frames { decomposition, .. } = &mut factor else {
-        unreachable!()
-    };
-    decomposition[1] = 0.0;
+    let mut own = frame(SCATTER);
+    own.decomposition[1] = 0.0;
+    let factor = Factor::Frames(own);
     let mut target = Target::patterned(3);
     let of_shape = |shape| Beside::of(&[(shape, &[1.0, 2.0][..])]);
     let answer = factor.accumulate(2, &[0], &of_shape([3, 1]), &mut target);

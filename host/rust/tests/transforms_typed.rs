@@ -192,11 +192,10 @@ fn further_transforms_that_are_refused() {
 /// A frame of the plane x = 0 whose block by columns is (1, 4, 5), (4, 5, 6), (5, 6, 7) and whose vector is (5, 6, 7), up to the
 /// dof, with its action and decomposition. It costs 7.
 fn frame(dof: u32) -> (FrameFactor, [Action; 1], Decomposition) {
-    let mut record = [
-        4.0, 0.0, 0.0, 0.0, 1.0, 4.0, 5.0, 4.0, 5.0, 6.0, 5.0, 6.0, 7.0,
-    ]
-    .into_iter();
-    let moments = Moments::from(std::array::from_fn(|_| record.next().unwrap()));
+    let mut record = *Moments::EMPTY.as_array();
+    record[0] = 4.0;
+    let outer = [[1.0, 4.0, 5.0], [4.0, 5.0, 6.0], [5.0, 6.0, 7.0]];
+    record[4..13].copy_from_slice(outer.as_flattened());
     // The normal is (0, 0, 1) in the frame, and parameter k turns axis k along x.
     let turned = [UNIT[1], UNIT[2], UNIT[0]];
     let zero = [0.0; 3];
@@ -205,7 +204,7 @@ fn frame(dof: u32) -> (FrameFactor, [Action; 1], Decomposition) {
         eigenvalues: [0.0, 1.0, 2.0],
         vectors: UNIT,
     };
-    let factor = FrameFactor::new(dof, &[moments], None, 1.0).unwrap();
+    let factor = FrameFactor::new(dof, &[Moments::from(record)], None, 1.0).unwrap();
     (
         factor,
         [Action::new(&turned, &zero, &[], axes)],
@@ -229,6 +228,9 @@ fn one_match(dof: u32) -> (MatchList, Action) {
     (MatchList::new(dof, [record]), pose)
 }
 
+/// A call that adds to normal equations and gives a cost.
+type Call<'a> = &'a dyn Fn(&mut NormalEquations) -> Result<f64, Refusal>;
+
 /// The frame's and the list's own call with transforms, on a target that a refused one leaves.
 fn accumulated(
     dof: u32,
@@ -242,7 +244,7 @@ fn accumulated(
     gradient.copy_from_slice(&patterns(order));
     let (factor, actions, fitted) = frame(dof);
     let (matches, pose) = one_match(dof);
-    let calls: [&dyn Fn(&mut NormalEquations) -> Result<f64, Refusal>; 2] = [
+    let calls: [Call; 2] = [
         &|normal| factor.accumulate_transformed(&actions, &fitted, map, beside, normal),
         &|normal| matches.accumulate_transformed(&pose, map, beside, normal),
     ];
