@@ -1,6 +1,7 @@
 //! Gauss-Newton over the planes: the poses are moved until the walls are as thin as they get.
 
 use crate::equations::{Equations, RawPlane, Trouble, Way};
+use crate::height::Height;
 use crate::job::{moments, Job};
 use crate::lapack;
 use crate::pose::{Pose, Vector, DOF};
@@ -45,6 +46,7 @@ pub struct Adjustment {
     anchored: bool,
     sigma: f64,
     way: Way,
+    height: Height,
 }
 
 /// How things stand after some steps.
@@ -56,6 +58,8 @@ pub struct Progress {
     pub thickness: f64,
     /// How far off the worst pose is, in metres and in radians, where the truth is known.
     pub worst: Option<(f64, f64)>,
+    /// How far the height of a pose is from the one that the job gives it, the most of all poses, in metres.
+    pub lifted: f64,
 }
 
 /// Why there is no adjustment.
@@ -74,6 +78,8 @@ pub enum Failure {
     Loose {
         /// The number of the pose, from 1.
         pose: usize,
+        /// Whether its height is one of the things to be held.
+        height: Height,
     },
 }
 
@@ -84,10 +90,16 @@ impl fmt::Display for Failure {
             Failure::NothingShared => {
                 f.write_str("no surface was seen twice, so nothing ties the poses together")
             }
-            Failure::Loose { pose } => write!(
-                f,
-                "pose {pose} is not held by the surfaces it saw: a floor and two walls that meet are needed"
-            ),
+            Failure::Loose { pose, height } => {
+                let floor = match height {
+                    Height::Free => "a floor and ",
+                    Height::Locked => "",
+                };
+                write!(
+                    f,
+                    "pose {pose} is not held by the surfaces it saw: {floor}two walls that meet are needed"
+                )
+            }
         }
     }
 }
@@ -95,23 +107,24 @@ impl fmt::Display for Failure {
 impl std::error::Error for Failure {}
 
 impl Adjustment {
-    /// Takes what each pose saw of each surface, and has the planes' equations made that way.
+    /// Takes what each pose saw of each surface, and has the planes' equations made that way, with heights free or locked.
     ///
     /// # Errors
     ///
     /// If no surface was seen twice, the library refuses one, or one has too many points for that way.
-    pub fn new(job: &Job, way: Way) -> Result<Adjustment, Failure> {
+    pub fn new(job: &Job, way: Way, height: Height) -> Result<Adjustment, Failure> {
         let poses = job.stations.len();
-        let offsets = (0..poses).map(|pose| Some((pose * DOF) as u32));
+        let offsets = (0..poses).map(|pose| Some((pose * height.unknowns()) as u32));
         let mut adjustment = Adjustment {
             planes: Vec::new(),
             points: 0.0,
             unused: Vec::new(),
             map: BlockMap::new(offsets).expect("a job has few poses"),
-            rows: poses * DOF,
+            rows: poses * height.unknowns(),
             anchored: job.points().1 > 0,
             sigma: job.sigma,
             way,
+            height,
         };
         for (surface, frames) in job.seen().into_iter().enumerate() {
             let added = adjustment.add(job, surface, frames);
@@ -184,23 +197,35 @@ impl Adjustment {
             let right = normal.gradient().iter().map(|g| -g).collect();
             let moves =
                 lapack::solve(normal.columns().to_vec(), right).expect("each block is stiff");
-            self.step(&mut poses, &moves);
+            self.step(job, &mut poses, &moves);
         }
         Ok(poses)
     }
 
     /// Moves each pose by its part of a step.
-    fn step(&self, poses: &mut [Pose], moves: &[f64]) {
+    fn step(&self, job: &Job, poses: &mut [Pose], moves: &[f64]) {
         let first = poses[0];
-        for (pose, own) in poses.iter_mut().zip(moves.chunks_exact(DOF)) {
-            *pose = pose.moved(own.try_into().expect("as many as a pose has"));
+        let own = moves.chunks_exact(self.height.unknowns());
+        for (pose, own) in poses.iter_mut().zip(own) {
+            *pose = self.height.moved(pose, own);
         }
         // Without known points nothing says where the site is: all poses together go back to where the first one stood. To hold
         // the first one during the step would be right too, but the others would close up to it only little by little.
         if !self.anchored {
-            let back = first.after(&poses[0].inverse());
-            for pose in poses {
+            let back = match self.height {
+                Height::Free => first.after(&poses[0].inverse()),
+                // To take its tilt back would move the others' heights. From the job's own pose, as tilts one after the other
+                // would leave a turn.
+                Height::Locked => poses[0].level_way_to(&job.stations[0].pose),
+            };
+            for pose in &mut *poses {
                 *pose = back.after(pose);
+            }
+        }
+        // What rounding does to heights that are locked would add up from step to step.
+        if self.height == Height::Locked {
+            for (pose, station) in poses.iter_mut().zip(&job.stations) {
+                pose.shift[2] = station.pose.shift[2];
             }
         }
     }
@@ -219,7 +244,9 @@ impl Adjustment {
         let mut cost = 0.0;
         for plane in &self.planes {
             let at: Vec<Pose> = plane.poses.iter().map(|&p| poses[p]).collect();
-            let added = plane.equations.add(&at, &plane.map, &mut normal);
+            let added = plane
+                .equations
+                .add(&at, self.height, &plane.map, &mut normal);
             cost += added.map_err(|trouble| of_surface(job, plane.surface, trouble))?;
         }
         Ok((normal, cost))
@@ -227,7 +254,9 @@ impl Adjustment {
 
     fn progress(&self, job: &Job, poses: &[Pose], cost: f64) -> Progress {
         let mut worst: Option<(f64, f64)> = None;
+        let mut lifted: f64 = 0.0;
         for (station, pose) in job.stations.iter().zip(poses) {
+            lifted = lifted.max((pose.shift[2] - station.pose.shift[2]).abs());
             if let Some(truth) = &station.truth {
                 let (metres, radians) = truth.distance(pose);
                 let (most, widest) = worst.unwrap_or_default();
@@ -238,20 +267,26 @@ impl Adjustment {
             cost,
             thickness: self.sigma * (cost / self.points).sqrt(),
             worst,
+            lifted,
         }
     }
 
     /// The first pose that is not held. A plane adds to the block of each pose alone, so that the blocks tell.
     fn loose(&self, normal: &NormalEquations) -> Option<Failure> {
+        let unknowns = self.height.unknowns();
         let is_loose = |offset: usize| {
-            let column = |c| (0..DOF).map(move |r| normal.hessian(offset + r, offset + c));
-            let block: Vec<f64> = (0..DOF).flat_map(column).collect();
-            let held =
-                |(values, _): (Vec<f64>, Vec<f64>)| values[0] > LEAST_STIFFNESS * values[DOF - 1];
-            !lapack::symmetric_eigen(DOF, block).is_some_and(held)
+            let column = |c| (0..unknowns).map(move |r| normal.hessian(offset + r, offset + c));
+            let block: Vec<f64> = (0..unknowns).flat_map(column).collect();
+            let held = |(values, _): (Vec<f64>, Vec<f64>)| {
+                values[0] > LEAST_STIFFNESS * values[unknowns - 1]
+            };
+            !lapack::symmetric_eigen(unknowns, block).is_some_and(held)
         };
-        let loose = (0..self.rows).step_by(DOF).position(is_loose);
-        loose.map(|pose| Failure::Loose { pose: pose + 1 })
+        let loose = (0..self.rows).step_by(unknowns).position(is_loose);
+        loose.map(|pose| Failure::Loose {
+            pose: pose + 1,
+            height: self.height,
+        })
     }
 }
 

@@ -1,7 +1,8 @@
 //! What one plane adds to the normal equations: by the moments of its frames, or point by point.
 
+use crate::height::Height;
 use crate::lapack;
-use crate::pose::{Pose, Vector, DOF};
+use crate::pose::{Pose, Vector};
 use maghnelt::{
     Action, BlockMap, Bundle, FrameFactor, Linearized, NormalEquations, Refusal, MAX_POINTS,
 };
@@ -60,7 +61,7 @@ impl std::error::Error for Trouble {}
 
 impl Equations {
     /// Adds to the normal equations what the plane adds with its frames at these poses, one for each of its frames, and gives
-    /// its cost.
+    /// its cost. Each frame has as many rows as its pose has unknowns.
     ///
     /// # Errors
     ///
@@ -72,12 +73,17 @@ impl Equations {
     pub fn add(
         &self,
         poses: &[Pose],
+        height: Height,
         map: &BlockMap,
         normal: &mut NormalEquations,
     ) -> Result<f64, Trouble> {
         match self {
-            Equations::Moments(factor) => by_moments(factor, poses, map, normal),
-            Equations::Points(plane) => plane.add(poses, map, normal),
+            Equations::Moments(factor) => by_moments(factor, poses, height, map, normal),
+            Equations::Points(plane) => match height {
+                Height::Free => plane.add(poses, Pose::columns, map, normal),
+                // A bundle takes the derivatives as the host has them, and so by the five unknowns: it needs no transform.
+                Height::Locked => plane.add(poses, Pose::level_columns, map, normal),
+            },
         }
     }
 
@@ -95,13 +101,15 @@ impl Equations {
 fn by_moments(
     factor: &FrameFactor,
     poses: &[Pose],
+    height: Height,
     map: &BlockMap,
     normal: &mut NormalEquations,
 ) -> Result<f64, Trouble> {
     let actions: Vec<Action> = poses.iter().map(Pose::action).collect();
     let sums = factor.fit(&actions)?;
     let found = lapack::decomposition(&sums.scatter).ok_or(Trouble::NoDecomposition)?;
-    Ok(factor.accumulate(&actions, &found, map, normal)?)
+    let transforms = height.transforms(poses)?;
+    Ok(factor.accumulate_transformed(&actions, &found, map, &transforms, normal)?)
 }
 
 /// A plane's points as each frame saw them, and those that are known in the site.
@@ -139,25 +147,31 @@ impl RawPlane {
         self.frames.iter().map(Vec::len).sum::<usize>() + self.known.len()
     }
 
-    /// The points as they lie in the site with the frames at these poses, and their derivatives by a step of the pose.
+    /// The points as they lie in the site with the frames at these poses, and their derivatives by a step of the pose, which
+    /// `columns` gives of a point as the frame saw it.
     #[must_use]
-    pub fn carried(&self, poses: &[Pose]) -> Bundle<DOF> {
+    pub fn carried<const N: usize>(
+        &self,
+        poses: &[Pose],
+        columns: impl Fn(&Pose, &Vector) -> [Vector; N],
+    ) -> Bundle<N> {
         let mut bundle = Bundle::new();
         for (pose, frame) in poses.iter().zip(&self.frames) {
-            bundle.add_frame(frame.iter().map(|p| (pose.to_site(p), pose.columns(p))));
+            bundle.add_frame(frame.iter().map(|p| (pose.to_site(p), columns(pose, p))));
         }
         bundle.add_fixed(self.known.iter().copied());
         bundle
     }
 
     /// The points in the site, the fit's scatter, LAPACK's decomposition of it, the library's rows, and what they sum to.
-    fn add(
+    fn add<const N: usize>(
         &self,
         poses: &[Pose],
+        columns: impl Fn(&Pose, &Vector) -> [Vector; N],
         map: &BlockMap,
         normal: &mut NormalEquations,
     ) -> Result<f64, Trouble> {
-        let bundle = self.carried(poses);
+        let bundle = self.carried(poses, columns);
         let fit = bundle.fit()?;
         let found = lapack::decomposition(&fit.scatter).ok_or(Trouble::NoDecomposition)?;
         let rows = bundle.linearize(self.sigma, &found)?;
@@ -168,16 +182,16 @@ impl RawPlane {
 
 /// Adds JᵀJ to the Hessian and Jᵀr to the gradient. A row has numbers in the columns of its own frame alone, so that there are
 /// only the frames' own blocks, and each needs the frame's own rows alone.
-fn add_products(
-    bundle: &Bundle<DOF>,
+fn add_products<const N: usize>(
+    bundle: &Bundle<N>,
     rows: &Linearized,
     map: &BlockMap,
     normal: &mut NormalEquations,
 ) {
     for (frame, own) in bundle.frame_rows().enumerate() {
         if let Some(offset) = map.offset(frame) {
-            let column = |c: usize| &rows.column(frame * DOF + c)[own.clone()];
-            let columns: [&[f64]; DOF] = std::array::from_fn(column);
+            let column = |c: usize| &rows.column(frame * N + c)[own.clone()];
+            let columns: [&[f64]; N] = std::array::from_fn(column);
             add_block(
                 &columns,
                 &rows.residual()[own.clone()],
@@ -189,8 +203,8 @@ fn add_products(
 }
 
 /// Adds what a frame's rows sum to at its offset.
-fn add_block(
-    columns: &[&[f64]; DOF],
+fn add_block<const N: usize>(
+    columns: &[&[f64]; N],
     residual: &[f64],
     offset: usize,
     normal: &mut NormalEquations,
@@ -200,7 +214,7 @@ fn add_block(
     for (j, right) in columns.iter().enumerate() {
         gradient[offset + j] += product(right, residual);
         let from = (offset + j) * order + offset;
-        for (cell, left) in hessian[from..from + DOF].iter_mut().zip(columns) {
+        for (cell, left) in hessian[from..from + N].iter_mut().zip(columns) {
             *cell += product(left, right);
         }
     }

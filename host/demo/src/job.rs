@@ -8,7 +8,8 @@ use std::collections::HashMap;
 use std::fmt;
 use std::fmt::Write as _;
 
-/// The most poses of a job: six unknowns each in a Hessian of at most 1,024 rows.
+/// The most poses of a job: six unknowns each in a Hessian of at most 1,024 rows. More would go in with their heights locked,
+/// but then a job could not be adjusted without the lock.
 pub const MAX_POSES: usize = 170;
 
 /// The scanner's noise where a job does not name it, in metres.

@@ -7,6 +7,7 @@
 //! | [`room`] | the same, made of a seed |
 //! | [`adjust`] | Gauss-Newton over the planes |
 //! | [`equations`] | what a plane adds to a step, by moments or point by point |
+//! | [`height`] | steps that keep the height of each pose |
 //! | [`saves`] | the story of the wall |
 //! | [`picture`] | the plan view |
 //! | [`speed`] | ten thousand planes against the clock |
@@ -17,6 +18,7 @@
 
 pub mod adjust;
 pub mod equations;
+pub mod height;
 pub mod job;
 pub mod lapack;
 pub mod options;

@@ -2,6 +2,7 @@
 
 use maghnelt_demo::adjust::{Adjustment, PlaneFactor, Progress};
 use maghnelt_demo::equations::Way;
+use maghnelt_demo::height::Height;
 use maghnelt_demo::job::Job;
 use maghnelt_demo::options::{Options, HELP};
 use maghnelt_demo::picture::Picture;
@@ -57,56 +58,75 @@ fn run(options: &Options) -> Result<(), Box<dyn Error>> {
         println!("{} written to {file}", counted(job.stations.len(), "pose"));
         return Ok(());
     }
-    let (seen, known) = job.points();
-    println!(
-        "{} saw {} on {}; {known} more are known in the site.",
-        counted(job.stations.len(), "pose"),
-        counted(seen, "point"),
-        counted(job.surfaces.len(), "surface")
-    );
-    let adjustment = Adjustment::new(&job, options.way)?;
+    show_job(&job);
+    let adjustment = Adjustment::new(&job, options.way, options.height)?;
     show_planes(&job, &adjustment, options.way);
-    let wall = wall(options, &job, &adjustment)?;
-    let (adjusted, steps) = settle(&job, &adjustment)?;
-    if options.way == Way::Points {
-        compare_with_moments(&job, &adjusted)?;
+    if options.height == Height::Locked {
+        show_unknowns(&job, options.way);
     }
-    let odometry: Vec<Pose> = job.stations.iter().map(|s| s.pose).collect();
-    let plane = &adjustment.planes[wall];
-    let name = &job.surfaces[plane.surface].name;
-    let story = saves::story(plane, &odometry, &adjusted)?
-        .ok_or_else(|| format!("the points of {name:?} lie in no plane"))?;
-    show_story(name, &story);
-
-    let file = options.picture.as_deref().unwrap_or("room.svg");
-    let picture = Picture {
-        job: &job,
-        walls: if options.job.is_none() {
-            &room::WALLS
-        } else {
-            &[]
-        },
-        adjusted: &adjusted,
-        steps: &steps,
-        wall: plane.surface,
-        story: &story,
-    };
-    write_file(file, &picture.svg())?;
-    println!();
-    println!("The picture is in {file}.");
+    let wall = &adjustment.planes[wall(options, &job, &adjustment)?];
+    let (adjusted, steps) = settle(&job, &adjustment, options.height)?;
+    if options.way == Way::Points {
+        compare_with_moments(&job, options.height, &adjusted)?;
+    }
+    if options.height == Height::Locked {
+        compare_with_free(&job, options.way, &steps)?;
+    }
+    tell_and_draw(options, &job, wall, &adjusted, &steps)?;
     show_speed(options)?;
     println!("Done in {:.1} s.", start.elapsed().as_secs_f64());
     Ok(())
 }
 
+/// The story of the wall, and the picture.
+fn tell_and_draw(
+    options: &Options,
+    job: &Job,
+    wall: &PlaneFactor,
+    adjusted: &[Pose],
+    steps: &[Progress],
+) -> Result<(), Box<dyn Error>> {
+    let odometry: Vec<Pose> = job.stations.iter().map(|s| s.pose).collect();
+    let name = &job.surfaces[wall.surface].name;
+    let story = saves::story(wall, &odometry, adjusted)?
+        .ok_or_else(|| format!("the points of {name:?} lie in no plane"))?;
+    show_story(name, &story);
+
+    let file = options.picture.as_deref().unwrap_or("room.svg");
+    let picture = Picture {
+        job,
+        walls: if options.job.is_none() {
+            &room::WALLS
+        } else {
+            &[]
+        },
+        adjusted,
+        steps,
+        height: options.height,
+        wall: wall.surface,
+        story: &story,
+    };
+    write_file(file, &picture.svg())?;
+    println!();
+    println!("The picture is in {file}.");
+    Ok(())
+}
+
 fn the_job(options: &Options) -> Result<Job, Box<dyn Error>> {
     let Some(file) = &options.job else {
+        let (seed, poses) = (options.seed, options.poses);
+        let (how, job) = match options.height {
+            Height::Free => ("on a walk".to_owned(), room::job(seed, poses)),
+            Height::Locked => {
+                let trolley = format!("from a trolley, {} m above the floor,", room::CARRIED_AT);
+                (trolley, room::trolley_job(seed, poses))
+            }
+        };
         println!(
-            "A room of seed {}: walls, a floor and an alcove, scanned on a walk with {:.0} mm of noise.",
-            options.seed,
+            "A room of seed {seed}: walls, a floor and an alcove, scanned {how} with {:.0} mm of noise.",
             1000.0 * room::NOISE
         );
-        return Ok(room::job(options.seed, options.poses));
+        return Ok(job);
     };
     let text = fs::read_to_string(file).map_err(|why| format!("{file} can't be read: {why}"))?;
     Ok(Job::read(&text).map_err(|why| format!("{file}: {why}"))?)
@@ -119,6 +139,16 @@ fn write_file(file: &str, text: &str) -> Result<(), String> {
 fn counted(number: usize, thing: &str) -> String {
     let more = if number == 1 { "" } else { "s" };
     format!("{number} {thing}{more}")
+}
+
+fn show_job(job: &Job) {
+    let (seen, known) = job.points();
+    println!(
+        "{} saw {} on {}; {known} more are known in the site.",
+        counted(job.stations.len(), "pose"),
+        counted(seen, "point"),
+        counted(job.surfaces.len(), "surface")
+    );
 }
 
 fn show_planes(job: &Job, adjustment: &Adjustment, way: Way) {
@@ -151,30 +181,39 @@ fn show_planes(job: &Job, adjustment: &Adjustment, way: Way) {
     }
 }
 
+fn show_unknowns(job: &Job, way: Way) {
+    let [locked, free] = [Height::Locked, Height::Free].map(Height::unknowns);
+    let how = match way {
+        Way::Moments => {
+            format!("each frame's block goes through a transform of {free} by {locked}")
+        }
+        Way::Points => format!("each point's row has {locked} columns"),
+    };
+    let poses = job.stations.len();
+    println!(
+        "Heights are locked: {locked} unknowns a pose, {} in all, in place of {}; {how}.",
+        locked * poses,
+        free * poses
+    );
+}
+
 /// Gauss-Newton with a line of the table for each step, as it is made.
 fn settle(
     job: &Job,
     adjustment: &Adjustment,
+    height: Height,
 ) -> Result<(Vec<Pose>, Vec<Progress>), Box<dyn Error>> {
     println!();
     println!("Gauss-Newton, until the cost settles:");
     println!();
-    println!("  step             cost   wall thickness   worst pose");
+    let heights = match height {
+        Height::Free => "",
+        Height::Locked => "            heights moved",
+    };
+    println!("  step             cost   wall thickness   worst pose{heights}");
     let mut steps: Vec<Progress> = Vec::new();
     let adjusted = adjustment.settle(job, |step, now| {
-        let worst = now
-            .worst
-            .map_or("         not known".to_owned(), |(metres, radians)| {
-                format!("{:>8.2} mm {:>6.3}°", 1000.0 * metres, radians.to_degrees())
-            });
-        let millimetres = 1000.0 * now.thickness;
-        println!(
-            "  {step:>4}   {:>14.1}   {millimetres:>11.3} mm   {worst}   {}",
-            now.cost,
-            bar(millimetres)
-        );
-        // A line shows when it is worked out, also through a pipe.
-        let _ = std::io::stdout().flush();
+        show_step(step, now, height);
         steps.push(*now);
     })?;
     if let Some(last) = steps.last() {
@@ -188,9 +227,34 @@ fn settle(
     Ok((adjusted, steps))
 }
 
+/// A line of the table.
+fn show_step(step: usize, now: &Progress, height: Height) {
+    let worst = now
+        .worst
+        .map_or("         not known".to_owned(), |(metres, radians)| {
+            format!("{:>8.2} mm {:>6.3}°", 1000.0 * metres, radians.to_degrees())
+        });
+    let worst = match height {
+        Height::Free => worst,
+        Height::Locked => format!("{worst:<19}   {:>10.3} mm", 1000.0 * now.lifted),
+    };
+    let millimetres = 1000.0 * now.thickness;
+    println!(
+        "  {step:>4}   {:>14.1}   {millimetres:>11.3} mm   {worst}   {}",
+        now.cost,
+        bar(millimetres)
+    );
+    // A line shows when it is worked out, also through a pipe.
+    let _ = std::io::stdout().flush();
+}
+
 /// How far from the poses adjusted point by point those adjusted by moments are.
-fn compare_with_moments(job: &Job, adjusted: &[Pose]) -> Result<(), Box<dyn Error>> {
-    let by_moments = Adjustment::new(job, Way::Moments)?.settle(job, |_, _| {})?;
+fn compare_with_moments(
+    job: &Job,
+    height: Height,
+    adjusted: &[Pose],
+) -> Result<(), Box<dyn Error>> {
+    let by_moments = Adjustment::new(job, Way::Moments, height)?.settle(job, |_, _| {})?;
     let off = adjusted.iter().zip(&by_moments).map(|(a, b)| a.distance(b));
     let (metres, radians) = off.fold((0.0f64, 0.0f64), |most, one| {
         (most.0.max(one.0), most.1.max(one.1))
@@ -200,6 +264,25 @@ fn compare_with_moments(job: &Job, adjusted: &[Pose]) -> Result<(), Box<dyn Erro
         1000.0 * metres,
         radians.to_degrees()
     );
+    Ok(())
+}
+
+/// How far heights moved, and what they and the walls would be without the lock: walls that would be thinner tell of heights that
+/// are wrong.
+fn compare_with_free(job: &Job, way: Way, steps: &[Progress]) -> Result<(), Box<dyn Error>> {
+    let moved = steps.iter().map(|now| now.lifted).fold(0.0, f64::max);
+    print!("No height moved by more than {} mm. ", 1000.0 * moved);
+    let mut free = None;
+    let settled = Adjustment::new(job, way, Height::Free)?.settle(job, |_, now| free = Some(*now));
+    match (settled, free) {
+        (Ok(_), Some(free)) => println!(
+            "Free, one would move by {:.2} mm, and the walls would be {:.2} mm thick.",
+            1000.0 * free.lifted,
+            1000.0 * free.thickness
+        ),
+        (Err(why), _) => println!("Free, there would be no adjustment: {why}."),
+        _ => println!(),
+    }
     Ok(())
 }
 
@@ -255,11 +338,15 @@ fn show_story(name: &str, story: &Story) {
 }
 
 fn show_speed(options: &Options) -> Result<(), Box<dyn Error>> {
-    let times = speed::measure(options.seed, options.way)?;
+    let times = speed::measure(options.seed, options.way, options.height)?;
     let [build, pass] = [times.build, times.pass].map(|time| time.as_secs_f64() * 1e3);
+    let accumulate = match options.height {
+        Height::Free => "accumulate",
+        Height::Locked => "accumulate_transformed",
+    };
     let what = match options.way {
         Way::Moments => {
-            format!("factors built in {build:.0} ms, one pass of fit, dsyev and accumulate")
+            format!("factors built in {build:.0} ms, one pass of fit, dsyev and {accumulate}")
         }
         Way::Points => {
             "one pass of points carried into the site, fit, dsyev, linearize and JᵀJ".to_owned()

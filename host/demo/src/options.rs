@@ -1,6 +1,7 @@
 //! What a user may ask for.
 
 use crate::equations::Way;
+use crate::height::Height;
 use crate::job::MAX_POSES;
 
 /// The text of `--help`.
@@ -12,6 +13,7 @@ options
   --poses N         how many poses the walk has, 3 to 170 (30)
   --job FILE        a job of one's own in place of the room; README.md describes the file
   --bundle          adjusts point by point in place of moments; no surface may then have more than 65536 points
+  --lock-height     keeps each pose's height, with 5 unknowns a pose; the room is then scanned from a trolley of known height
   --wall NAME       the surface whose story is told (the alcove wall, or a job's first surface)
   --picture FILE    where the picture goes (target/room.svg)
   --write-job FILE  writes the room's job as a file and stops
@@ -29,6 +31,8 @@ pub struct Options {
     pub job: Option<String>,
     /// How the planes' equations are made.
     pub way: Way,
+    /// Whether the poses keep their heights.
+    pub height: Height,
     /// The surface of the story.
     pub wall: Option<String>,
     /// Where the picture goes, if somewhere else.
@@ -51,6 +55,7 @@ impl Options {
             poses: 30,
             job: None,
             way: Way::Moments,
+            height: Height::Free,
             wall: None,
             picture: None,
             write_job: None,
@@ -75,6 +80,7 @@ impl Options {
                 }
                 "--job" => options.job = Some(value()?),
                 "--bundle" => options.way = Way::Points,
+                "--lock-height" => options.height = Height::Locked,
                 "--wall" => options.wall = Some(value()?),
                 "--picture" => options.picture = Some(value()?),
                 "--write-job" => options.write_job = Some(value()?),
@@ -82,18 +88,23 @@ impl Options {
                 _ => return Err(format!("{option:?} is no option; ./run --help lists them")),
             }
         }
-        // An option that would count for nothing is a mistake to hear of.
-        match (&options.job, room_asked, &options.write_job) {
+        options.checked(room_asked)
+    }
+
+    /// An option that would count for nothing is a mistake to hear of. Locked heights count everywhere: a job that is written
+    /// is then the trolley's.
+    fn checked(self, room_asked: Option<String>) -> Result<Options, String> {
+        match (&self.job, room_asked, &self.write_job) {
             (Some(_), Some(option), _) => {
                 Err(format!("{option} makes a room, and --job brings its own"))
             }
             (Some(_), _, Some(_)) => {
                 Err("--write-job writes the room's job, and --job brings its own".into())
             }
-            (_, _, Some(_)) if options.way == Way::Points => {
+            (_, _, Some(_)) if self.way == Way::Points => {
                 Err("--write-job adjusts nothing, neither by --bundle nor by moments".into())
             }
-            _ => Ok(options),
+            _ => Ok(self),
         }
     }
 }
@@ -120,6 +131,11 @@ mod tests {
         assert_eq!(read("").unwrap().poses, 30);
         assert_eq!(read("").unwrap().way, Way::Moments);
         assert_eq!(read("--job a --bundle").unwrap().way, Way::Points);
+        assert_eq!(read("").unwrap().height, Height::Free);
+        for with in ["--job a", "--bundle", "--seed 7", "--write-job a"] {
+            let options = read(&format!("{with} --lock-height")).unwrap();
+            assert_eq!(options.height, Height::Locked);
+        }
         assert!(read("--help").unwrap().help);
     }
 

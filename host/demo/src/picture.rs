@@ -1,6 +1,7 @@
 //! The picture: the room from above before and after the adjustment, one wall from close by, and its story.
 
 use crate::adjust::Progress;
+use crate::height::Height;
 use crate::job::{moments, Job};
 use crate::lapack;
 use crate::pose::{cross, dot, norm, Pose, Vector};
@@ -40,6 +41,8 @@ pub struct Picture<'a> {
     pub adjusted: &'a [Pose],
     /// How things stood before the first step and after each.
     pub steps: &'a [Progress],
+    /// Whether the poses kept their heights.
+    pub height: Height,
     /// The surface of the story.
     pub wall: usize,
     /// Its story.
@@ -122,17 +125,22 @@ impl Picture<'_> {
     }
 
     fn title(&self, svg: &mut Svg) {
-        svg.text(
-            [40.0, 52.0],
-            "title",
-            "A room scanned on a walk, before and after its poses are adjusted",
-        );
+        let how = match self.height {
+            Height::Free => "on a walk",
+            Height::Locked => "at locked heights",
+        };
+        let title = format!("A room scanned {how}, before and after its poses are adjusted");
+        svg.text([40.0, 52.0], "title", title);
         let (seen, _) = self.job.points();
         let mut facts = format!(
             "{} poses, {} points",
             self.job.stations.len(),
             grouped(seen)
         );
+        if self.height == Height::Locked {
+            let unknowns = self.height.unknowns();
+            let _ = write!(facts, "  ·  heights locked, {unknowns} unknowns a pose");
+        }
         if let [first, .., last] = self.steps {
             let millimetres = |x: f64| 1000.0 * x;
             let _ = write!(

@@ -9,6 +9,8 @@ pub type Matrix = [[f64; 3]; 3];
 
 /// The parameters of a pose: a shift and a turn, both in the frame's own axes.
 pub const DOF: usize = 6;
+/// Those of a pose that keeps its height: a shift along the site's x and y, and a turn in the frame's own axes.
+pub const LEVEL_DOF: usize = 5;
 
 /// Where a scanner stood: `p ↦ R·p + t` takes what it saw into the site.
 #[derive(Clone, Copy, Debug, PartialEq)]
@@ -69,6 +71,20 @@ impl Pose {
         }
     }
 
+    /// The motion that takes this pose to where `other` stands, and turns it as near to it as can be, by a shift in plan and a
+    /// turn about the vertical: whatever it moves keeps its height, but for rounding.
+    #[must_use]
+    pub fn level_way_to(&self, other: &Pose) -> Pose {
+        let [x, y, _] = other.after(&self.inverse()).rotation;
+        let rotation = turn([0.0, 0.0, (x[1] - y[0]).atan2(x[0] + y[1])]);
+        let turned = times(&rotation, &self.shift);
+        let [x, y, _] = std::array::from_fn(|r| other.shift[r] - turned[r]);
+        Pose {
+            rotation,
+            shift: [x, y, 0.0],
+        }
+    }
+
     /// The pose after a step of the adjustment, taken in the frame's own axes as the action's derivatives are.
     #[must_use]
     pub fn moved(&self, step: &[f64; DOF]) -> Pose {
@@ -87,6 +103,15 @@ impl Pose {
             .rotation
             .map(|axis| times(&self.rotation, &cross(&axis, point)));
         [x, y, z, about_x, about_y, about_z]
+    }
+
+    /// The derivatives by a step that keeps the height: `(e_x, e_y, −R·[p]×)`. To shift a pose along an axis of the site shifts
+    /// all that it saw along that axis.
+    #[must_use]
+    pub fn level_columns(&self, point: &Vector) -> [Vector; LEVEL_DOF] {
+        let [_, _, _, about_x, about_y, about_z] = self.columns(point);
+        let [x, y, _] = Pose::ORIGIN.rotation;
+        [x, y, about_x, about_y, about_z]
     }
 
     /// What the library is told of the pose.
@@ -180,6 +205,26 @@ mod tests {
             &point
         ));
         assert_eq!(pose.distance(&pose).0, 0.0);
+    }
+
+    #[test]
+    fn a_level_way_keeps_heights() {
+        let there = Pose::new([1.0, -2.0, 0.5], [0.7, -0.2, 0.1]);
+        // What was moved level comes all the way back.
+        let here = Pose::new([3.0, 4.0, 0.0], [-0.4, 0.0, 0.0]).after(&there);
+        let (metres, radians) = here.level_way_to(&there).after(&here).distance(&there);
+        assert!(metres < 1e-14 && radians < 1e-14);
+        // What was lifted and tilted too comes back in plan, and as near as a turn about the vertical takes it: a little more or
+        // less of it takes it further off.
+        let here = Pose::new([3.0, 4.0, 0.3], [-0.4, 0.1, 0.0]).after(&there);
+        let way = here.level_way_to(&there);
+        let [x, y, z] = way.to_site(&here.shift);
+        assert!(close(&[x, y, z], &[1.0, -2.0, here.shift[2]]));
+        let off = |turned: f64| {
+            let further = Pose::new([0.0; 3], [turned, 0.0, 0.0]);
+            further.after(&way).after(&here).distance(&there).1
+        };
+        assert!(off(0.0) < off(1e-4) && off(0.0) < off(-1e-4));
     }
 
     #[test]

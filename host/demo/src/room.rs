@@ -1,4 +1,5 @@
-//! A job made of a seed: a room with a cut corner and an alcove, a walk through it, and two scans from known marks.
+//! A job made of a seed: a room with a cut corner and an alcove, a way through it on a back or on a trolley, and two scans from
+//! known marks.
 
 use crate::job::{Job, Station};
 use crate::pose::{Pose, Vector};
@@ -41,13 +42,50 @@ const WAYPOINTS: [[f64; 2]; 11] = [
 /// Marks of the survey, with a scan from a tripod on each: what is known in the site before the walk.
 pub const MARKS: [Vector; 2] = [[2.9, 3.4, 1.5], [6.4, 5.7, 1.5]];
 
-/// Rings and spokes of the backpack's scanner, and of the tripod's.
-const BACKPACK: (usize, usize) = (20, 72);
+/// Rings and spokes of the scanner that is carried, and of the tripod's.
+const CARRIED: (usize, usize) = (20, 72);
 const TRIPOD: (usize, usize) = (90, 240);
 
-/// The job of a seed, with that many poses.
+/// How high the scanner is carried above the floor, in metres.
+pub const CARRIED_AT: f64 = 1.55;
+
+/// What carries the scanner.
+#[derive(Clone, Copy)]
+struct Carrier {
+    /// How much it tilts, in radians.
+    tilt: f64,
+    /// How much its height changes, in metres.
+    rise: f64,
+}
+
+const BACKPACK: Carrier = Carrier {
+    tilt: 0.03,
+    rise: 0.02,
+};
+/// A mast on wheels: it tilts where the floor is uneven, by so little that its top keeps its height.
+const TROLLEY: Carrier = Carrier {
+    tilt: 0.003,
+    rise: 0.0,
+};
+
+/// The job of a seed, with that many poses of a walk with a backpack.
 #[must_use]
 pub fn job(seed: u64, poses: usize) -> Job {
+    carried_by(BACKPACK, seed, poses)
+}
+
+/// The same with a trolley in place of the backpack. Its height is known, since a mast can be measured, and that is the height
+/// of each pose: odometry, which wanders off in height too, is not asked for it.
+#[must_use]
+pub fn trolley_job(seed: u64, poses: usize) -> Job {
+    let mut job = carried_by(TROLLEY, seed, poses);
+    for station in &mut job.stations {
+        station.pose.shift[2] = CARRIED_AT;
+    }
+    job
+}
+
+fn carried_by(carrier: Carrier, seed: u64, poses: usize) -> Job {
     let mut random = Random::new(seed);
     let mut job = Job::new(NOISE);
     // Named first, so that surfaces have the same order whatever is seen first.
@@ -61,10 +99,10 @@ pub fn job(seed: u64, poses: usize) -> Job {
             job.surfaces[surface].fixed.push(tripod.to_site(&point));
         }
     }
-    let truths = walk(poses, &mut random);
+    let truths = walk(carrier, poses, &mut random);
     let guesses = odometry(&truths, &mut random);
     for (truth, pose) in truths.into_iter().zip(guesses) {
-        let points = scan(&truth, BACKPACK, &mut job, &mut random);
+        let points = scan(&truth, CARRIED, &mut job, &mut random);
         job.stations.push(Station {
             pose,
             truth: Some(truth),
@@ -74,8 +112,8 @@ pub fn job(seed: u64, poses: usize) -> Job {
     job
 }
 
-/// Poses at even steps along a smooth curve through the waypoints, swaying a little as a walker does.
-fn walk(poses: usize, random: &mut Random) -> Vec<Pose> {
+/// Poses at even steps along a smooth curve through the waypoints, swaying a little as what carries the scanner does.
+fn walk(carrier: Carrier, poses: usize, random: &mut Random) -> Vec<Pose> {
     const FINE: usize = 40;
     let mut curve = Vec::new();
     for leg in 0..WAYPOINTS.len() - 1 {
@@ -98,8 +136,8 @@ fn walk(poses: usize, random: &mut Random) -> Vec<Pose> {
             let [from, to] = [curve[next - 1], curve[next]];
             let [x, y] = [0, 1].map(|i| from[i] + part * (to[i] - from[i]));
             let heading = (to[1] - from[1]).atan2(to[0] - from[0]);
-            let sway = [random.normal(0.03), random.normal(0.03)];
-            let height = 1.55 + random.normal(0.02);
+            let sway = [random.normal(carrier.tilt), random.normal(carrier.tilt)];
+            let height = CARRIED_AT + random.normal(carrier.rise);
             Pose::new([x, y, height], [heading, sway[0], sway[1]])
         })
         .collect()

@@ -1,6 +1,7 @@
 //! Ten thousand planes against the clock.
 
 use crate::equations::{Equations, RawPlane, Trouble, Way};
+use crate::height::Height;
 use crate::lapack;
 use crate::pose::{Pose, Vector, DOF};
 use crate::random::Random;
@@ -33,7 +34,7 @@ pub struct Times {
 /// # Errors
 ///
 /// What the library refuses.
-pub fn measure(seed: u64, way: Way) -> Result<Times, Trouble> {
+pub fn measure(seed: u64, way: Way, height: Height) -> Result<Times, Trouble> {
     let mut random = Random::new(seed);
     let pose = |random: &mut Random| Pose::new(random.normals(3.0), random.normals(0.5));
     let poses: Vec<Pose> = (0..POSES).map(|_| pose(&mut random)).collect();
@@ -42,8 +43,8 @@ pub fn measure(seed: u64, way: Way) -> Result<Times, Trouble> {
         .collect();
 
     let (build, pass) = match way {
-        Way::Moments => by_moments(&seen, &poses)?,
-        Way::Points => (Duration::ZERO, by_points(seen, &poses)?),
+        Way::Moments => by_moments(&seen, &poses, height)?,
+        Way::Points => (Duration::ZERO, by_points(seen, &poses, height)?),
     };
     Ok(Times {
         build,
@@ -54,7 +55,11 @@ pub fn measure(seed: u64, way: Way) -> Result<Times, Trouble> {
 }
 
 /// How long the factors and a pass over them take.
-fn by_moments(seen: &[Vec<Vec<Vector>>], poses: &[Pose]) -> Result<(Duration, Duration), Trouble> {
+fn by_moments(
+    seen: &[Vec<Vec<Vector>>],
+    poses: &[Pose],
+    height: Height,
+) -> Result<(Duration, Duration), Trouble> {
     let start = Instant::now();
     let mut built: Vec<FrameFactor> = Vec::with_capacity(PLANES);
     for frames in seen {
@@ -67,15 +72,16 @@ fn by_moments(seen: &[Vec<Vec<Vector>>], poses: &[Pose]) -> Result<(Duration, Du
     let build = start.elapsed();
 
     let start = Instant::now();
-    let mut normal = NormalEquations::zeros(POSES * DOF);
-    let map = whole_map()?;
+    let mut normal = NormalEquations::zeros(POSES * height.unknowns());
+    let map = whole_map(height)?;
     let actions: Vec<Action> = poses.iter().map(Pose::action).collect();
     for (plane, factor) in built.iter().enumerate() {
         let of_plane: Vec<Action> = (0..FRAMES).map(|f| actions[seer(plane, f)]).collect();
         let sums = factor.fit(&of_plane)?;
         let found = lapack::decomposition(&sums.scatter).expect("points of a patch are finite");
         let map = map.remapped(&list(plane)?);
-        factor.accumulate(&of_plane, &found, &map, &mut normal)?;
+        let transforms = height.transforms((0..FRAMES).map(|f| &poses[seer(plane, f)]))?;
+        factor.accumulate_transformed(&of_plane, &found, &map, &transforms, &mut normal)?;
     }
     let pass = start.elapsed();
     are_finite(&normal);
@@ -83,15 +89,20 @@ fn by_moments(seen: &[Vec<Vec<Vector>>], poses: &[Pose]) -> Result<(Duration, Du
 }
 
 /// How long a pass over the planes takes, point by point.
-fn by_points(seen: Vec<Vec<Vec<Vector>>>, poses: &[Pose]) -> Result<Duration, Trouble> {
+fn by_points(
+    seen: Vec<Vec<Vec<Vector>>>,
+    poses: &[Pose],
+    height: Height,
+) -> Result<Duration, Trouble> {
     let raw = |frames| RawPlane::new(frames, Vec::new(), SIGMA).map(Equations::Points);
     let planes: Vec<Equations> = seen.into_iter().map(raw).collect::<Result<_, _>>()?;
     let start = Instant::now();
-    let mut normal = NormalEquations::zeros(POSES * DOF);
-    let map = whole_map()?;
+    let mut normal = NormalEquations::zeros(POSES * height.unknowns());
+    let map = whole_map(height)?;
     for (plane, equations) in planes.iter().enumerate() {
         let of_plane: Vec<Pose> = (0..FRAMES).map(|f| poses[seer(plane, f)]).collect();
-        equations.add(&of_plane, &map.remapped(&list(plane)?), &mut normal)?;
+        let map = map.remapped(&list(plane)?);
+        equations.add(&of_plane, height, &map, &mut normal)?;
     }
     let pass = start.elapsed();
     are_finite(&normal);
@@ -99,8 +110,8 @@ fn by_points(seen: Vec<Vec<Vec<Vector>>>, poses: &[Pose]) -> Result<Duration, Tr
 }
 
 /// Where the rows of each pose begin.
-fn whole_map() -> Result<BlockMap, Refusal> {
-    BlockMap::new((0..POSES).map(|pose| Some((pose * DOF) as u32)))
+fn whole_map(height: Height) -> Result<BlockMap, Refusal> {
+    BlockMap::new((0..POSES).map(|pose| Some((pose * height.unknowns()) as u32)))
 }
 
 /// The poses that see a plane.

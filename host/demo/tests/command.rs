@@ -56,6 +56,87 @@ fn a_run_shows_the_job_and_draws_it() {
     }
     let picture = fs::read_to_string(folder.0.join("room.svg")).unwrap();
     assert!(picture.starts_with("<svg"));
+    for words in ["heights", "locked", "trolley"] {
+        assert!(
+            !said.contains(words) && !picture.contains(words),
+            "{words}\n{said}"
+        );
+    }
+}
+
+#[test]
+fn a_run_with_locked_heights_says_so_and_draws_it() {
+    let folder = Folder::new("locked");
+    let said = folder.says(&["--lock-height"]);
+    for words in [
+        "scanned from a trolley, 1.55 m above the floor, with 2 mm of noise.",
+        "Heights are locked: 5 unknowns a pose, 150 in all, in place of 180; \
+         each frame's block goes through a transform of 6 by 5.",
+        "No height moved by more than 0 mm. Free, one would move by 0.",
+        "mm thick; the scanner's noise is 2.00 mm.",
+    ] {
+        assert!(said.contains(words), "{words}\n{said}");
+    }
+    let steps = table(&said);
+    assert!(steps[0].ends_with("heights moved"), "{said}");
+    for line in &steps[1..] {
+        assert!(line.contains("°        0.000 mm   ▇"), "{line}");
+    }
+    let picture = fs::read_to_string(folder.0.join("room.svg")).unwrap();
+    for words in ["at locked heights", "heights locked, 5 unknowns a pose"] {
+        assert!(picture.contains(words), "{words}");
+    }
+}
+
+/// The options that make a small room.
+const SMALL: [&str; 4] = ["--seed", "4", "--poses", "8"];
+
+impl Folder {
+    /// Writes the job of the small room, scanned from a trolley, and gives its text.
+    fn trolley_job(&self, file: &str) -> String {
+        self.says(&[&SMALL[..], &["--lock-height", "--write-job", file]].concat());
+        fs::read_to_string(self.0.join(file)).unwrap()
+    }
+}
+
+#[test]
+fn heights_of_a_job_are_locked_where_the_job_has_them() {
+    let folder = Folder::new("heights");
+    let job = folder.trolley_job("trolley.csv");
+    let poses: Vec<&str> = job.lines().filter(|l| l.starts_with("pose,")).collect();
+    assert_eq!(poses.len(), 8);
+    let height = |line: &&str| line.split(',').nth(3) == Some("1.550000");
+    assert!(poses.iter().all(height), "{poses:?}");
+
+    let locked = ["--lock-height", "--job", "trolley.csv"];
+    let by_moments = folder.says(&locked);
+    let by_points = folder.says(&[&locked[..], &["--bundle"]].concat());
+    assert_eq!(table(&by_points), table(&by_moments));
+    for words in [
+        "each point's row has 5 columns.",
+        "By moments no pose ends more than",
+    ] {
+        assert!(by_points.contains(words), "{words}\n{by_points}");
+    }
+    // A file rounds to micrometres, which shows in the cost alone.
+    let made = folder.says(&[&SMALL[..], &["--lock-height"]].concat());
+    let last = |said: &str| table(said).last().map(|line| line[24..].to_owned());
+    assert_eq!(last(&made), last(&by_moments));
+}
+
+#[test]
+fn walls_alone_hold_poses_of_known_height() {
+    let folder = Folder::new("walls");
+    let job = folder.trolley_job("trolley.csv");
+    let walls: Vec<&str> = job.lines().filter(|l| !l.contains(",floor,")).collect();
+    fs::write(folder.0.join("walls.csv"), walls.join("\n")).unwrap();
+    let loose =
+        "pose 1 is not held by the surfaces it saw: a floor and two walls that meet are needed";
+    let said = folder.says(&["--lock-height", "--job", "walls.csv"]);
+    let free = format!("Free, there would be no adjustment: {loose}.\n");
+    assert!(said.contains(&free), "{said}");
+    let output = folder.run(&["--job", "walls.csv"]);
+    assert_eq!(text(&output.stderr), format!("run: {loose}\n"));
 }
 
 /// The lines of the steps in what a run says.
@@ -100,6 +181,7 @@ fn mistakes_end_with_a_clear_word() {
     for (words, status, says) in [
         (&["--poses", "2"][..], 2, "run: --poses takes 3 to 170, not 2\n"),
         (&["--walls"], 2, "run: \"--walls\" is no option; ./run --help lists them\n"),
+        (&["--lock-height", "1.5"], 2, "run: \"1.5\" is no option; ./run --help lists them\n"),
         (
             &["--job", "bad.csv"],
             1,

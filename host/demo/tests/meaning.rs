@@ -1,5 +1,5 @@
 //! What the numbers mean, beyond their bits: H = JᵀJ and g = Jᵀr, g is the slope of the cost, points and their moments mean the
-//! same, and Gauss-Newton brings the walls down to the noise.
+//! same, locked heights take Tᵀ·H·T and Tᵀ·g and stay, and Gauss-Newton brings the walls down to the noise.
 
 use maghnelt::{
     Action, BlockMap, Bundle, Centred, Decomposition, FrameFactor, Linearized, MatchList, Moments,
@@ -7,9 +7,10 @@ use maghnelt::{
 };
 use maghnelt_demo::adjust::{Adjustment, Progress};
 use maghnelt_demo::equations::Way;
+use maghnelt_demo::height::Height;
 use maghnelt_demo::job::{Job, Station};
 use maghnelt_demo::lapack;
-use maghnelt_demo::pose::{cross, dot, product, times, turn, Matrix, Pose, Vector, DOF};
+use maghnelt_demo::pose::{cross, dot, product, times, turn, Matrix, Pose, Vector, DOF, LEVEL_DOF};
 use maghnelt_demo::random::Random;
 use maghnelt_demo::room;
 
@@ -314,20 +315,120 @@ fn the_gradient_is_the_slope_of_the_cost() {
     }
 }
 
+/// The pose with unknown `i` of five moved: its place in plan, or its turn.
+fn moved_in_plan(pose: &Pose, i: usize, h: f64) -> Pose {
+    let mut moved = *pose;
+    match i {
+        0 | 1 => moved.shift[i] += h,
+        _ => moved.rotation = product(&pose.rotation, &turn(UNITS[i - 2].map(|x| h * x))),
+    }
+    moved
+}
+
 #[test]
 fn the_gradient_of_a_job_is_the_slope_of_its_cost() {
     let job = room::job(3, 30);
-    let adjustment = Adjustment::new(&job, Way::Moments).unwrap();
-    let poses: Vec<Pose> = job.stations.iter().map(|s| s.pose).collect();
-    let (normal, cost) = adjustment.normal_equations(&job, &poses).unwrap();
-    assert_eq!(normal.order(), 30 * DOF);
-    is_slope(&normal, cost, |i, h| {
-        let mut step = [0.0; DOF];
-        step[i % DOF] = h;
-        let mut poses = poses.clone();
-        poses[i / DOF] = poses[i / DOF].moved(&step);
-        adjustment.normal_equations(&job, &poses).unwrap().1
-    });
+    let poses = odometry(&job);
+    for height in [Height::Free, Height::Locked] {
+        let adjustment = Adjustment::new(&job, Way::Moments, height).unwrap();
+        let (normal, cost) = adjustment.normal_equations(&job, &poses).unwrap();
+        let unknowns = height.unknowns();
+        assert_eq!(normal.order(), 30 * unknowns);
+        is_slope(&normal, cost, |i, h| {
+            let mut poses = poses.clone();
+            let pose = &mut poses[i / unknowns];
+            *pose = match height {
+                Height::Free => {
+                    let mut step = [0.0; DOF];
+                    step[i % DOF] = h;
+                    pose.moved(&step)
+                }
+                Height::Locked => moved_in_plan(pose, i % LEVEL_DOF, h),
+            };
+            adjustment.normal_equations(&job, &poses).unwrap().1
+        });
+    }
+}
+
+/// The poses as a job has them.
+fn odometry(job: &Job) -> Vec<Pose> {
+    job.stations.iter().map(|s| s.pose).collect()
+}
+
+/// The columns of a pose's T: the steps in its own axes that shift it along the site's x, along its y, and turn it.
+fn level_steps(pose: &Pose) -> [[f64; DOF]; LEVEL_DOF] {
+    let turned = Pose {
+        shift: [0.0; 3],
+        ..*pose
+    };
+    let shift = |axis: &Vector| {
+        let [x, y, z] = turned.to_frame(axis);
+        [x, y, z, 0.0, 0.0, 0.0]
+    };
+    let about = UNITS.map(|[x, y, z]| [0.0, 0.0, 0.0, x, y, z]);
+    [
+        shift(&UNITS[0]),
+        shift(&UNITS[1]),
+        about[0],
+        about[1],
+        about[2],
+    ]
+}
+
+/// The block of pose `k` in normal equations of so many unknowns a pose.
+fn block(normal: &NormalEquations, unknowns: usize, k: usize) -> Vec<f64> {
+    let from = unknowns * k;
+    let column = |c: usize| (0..unknowns).map(move |r| normal.hessian(from + r, from + c));
+    (0..unknowns).flat_map(column).collect()
+}
+
+#[test]
+fn locked_heights_take_the_whole_equations_through_t() {
+    for job in [room::job(3, 30), room::trolley_job(60, 12)] {
+        let [whole, locked] = [Height::Free, Height::Locked]
+            .map(|height| Adjustment::new(&job, Way::Moments, height).unwrap());
+        for poses in [
+            odometry(&job),
+            settled(&job, Way::Moments, Height::Locked).0,
+        ] {
+            let (full, cost) = whole.normal_equations(&job, &poses).unwrap();
+            let (normal, same) = locked.normal_equations(&job, &poses).unwrap();
+            assert_eq!(same.to_bits(), cost.to_bits());
+            assert_eq!(normal.order(), poses.len() * LEVEL_DOF);
+            // A term goes through six rounded products and sums for each factor T, here and in the library, and through one sum
+            // for each plane on either side.
+            let most = (24 + 2 * whole.planes.len()) as f64 * f64::EPSILON;
+            for (k, pose) in poses.iter().enumerate() {
+                through_t(&full, &normal, k, &level_steps(pose), (cost, most));
+            }
+        }
+    }
+}
+
+/// Block and vector of pose `k` are Tᵀ·M·T and Tᵀ·v, as near as `most` of the sizes of what they sum up. By Cauchy and Schwarz
+/// what the planes add to a cell of M, and to one of v, is no more in all than the roots of the diagonal's cells, and of the cost,
+/// give.
+fn through_t(
+    full: &NormalEquations,
+    normal: &NormalEquations,
+    k: usize,
+    t: &[[f64; DOF]; LEVEL_DOF],
+    (cost, most): (f64, f64),
+) {
+    let (m, found) = (block(full, DOF, k), block(normal, LEVEL_DOF, k));
+    let v = &full.gradient()[DOF * k..][..DOF];
+    let sum = |f: &dyn Fn(usize) -> f64| -> f64 { (0..DOF).map(f).sum() };
+    let size = |i: usize| sum(&|r| t[i][r].abs() * m[DOF * r + r].sqrt());
+    for i in 0..LEVEL_DOF {
+        let g = sum(&|r| t[i][r] * v[r]);
+        let off = (normal.gradient()[LEVEL_DOF * k + i] - g).abs();
+        assert!(off <= most * size(i) * cost.sqrt(), "g({i}) of {k}: {off}");
+        for j in 0..LEVEL_DOF {
+            let h = sum(&|c| sum(&|r| t[i][r] * m[DOF * c + r]) * t[j][c]);
+            let off = (found[LEVEL_DOF * j + i] - h).abs();
+            assert!(off <= most * size(i) * size(j), "H({i},{j}) of {k}: {off}");
+        }
+    }
 }
 
 /// Matches of points with planes through them, under a state that is a little off.
@@ -391,9 +492,9 @@ fn matches_mean_the_same() {
 }
 
 /// The poses of a job after its adjustment, and its steps.
-fn settled(job: &Job, way: Way) -> (Vec<Pose>, Vec<Progress>) {
+fn settled(job: &Job, way: Way, height: Height) -> (Vec<Pose>, Vec<Progress>) {
     let mut steps = Vec::new();
-    let adjustment = Adjustment::new(job, way).unwrap();
+    let adjustment = Adjustment::new(job, way, height).unwrap();
     let poses = adjustment.settle(job, |_, now| steps.push(*now)).unwrap();
     (poses, steps)
 }
@@ -401,38 +502,91 @@ fn settled(job: &Job, way: Way) -> (Vec<Pose>, Vec<Progress>) {
 #[test]
 fn walls_come_down_to_the_noise() {
     for (seed, poses) in [(60, 30), (1, 30), (2, 10), (3, 3), (4, 60)] {
-        let job = room::job(seed, poses);
-        let (_, steps) = settled(&job, Way::Moments);
-        let (first, last) = (steps[0], steps[steps.len() - 1]);
-        assert!(
-            first.thickness > 2.0 * room::NOISE,
-            "seed {seed}: {first:?}"
-        );
-        assert!(
-            (last.thickness / room::NOISE - 1.0).abs() < 0.02,
-            "seed {seed}: {last:?}"
-        );
-        let (metres, radians) = last.worst.unwrap();
-        assert!(metres < 0.002 && radians < 0.001, "seed {seed}: {last:?}");
-        assert!(steps.len() < 60, "seed {seed} did not settle");
-        for pair in steps.windows(2) {
-            assert!(pair[1].cost <= pair[0].cost, "seed {seed}: the cost rose");
+        for (job, height) in [
+            (room::job(seed, poses), Height::Free),
+            (room::trolley_job(seed, poses), Height::Locked),
+        ] {
+            let (_, steps) = settled(&job, Way::Moments, height);
+            let (first, last) = (steps[0], steps[steps.len() - 1]);
+            assert!(
+                first.thickness > 2.0 * room::NOISE,
+                "seed {seed}: {first:?}"
+            );
+            assert!(is_noise(last.thickness), "seed {seed}: {last:?}");
+            let (metres, radians) = last.worst.unwrap();
+            assert!(metres < 0.002 && radians < 0.001, "seed {seed}: {last:?}");
+            assert!(steps.len() < 60, "seed {seed} did not settle");
+            for pair in steps.windows(2) {
+                assert!(pair[1].cost <= pair[0].cost, "seed {seed}: the cost rose");
+            }
         }
+    }
+}
+
+/// Whether walls are as thick as the room's noise makes them.
+fn is_noise(thickness: f64) -> bool {
+    (thickness / room::NOISE - 1.0).abs() < 0.02
+}
+
+/// That no height moved by a bit, and that poses moved all the same.
+fn kept_their_heights(job: &Job, poses: &[Pose]) {
+    for (pose, before) in poses.iter().zip(odometry(job)) {
+        assert_eq!(pose.shift[2].to_bits(), before.shift[2].to_bits());
+        assert_ne!(pose.rotation, before.rotation);
+    }
+    let last = poses.len() - 1;
+    let off = poses[last].distance(&job.stations[last].pose).0;
+    assert!(off > 0.001, "{off}");
+}
+
+#[test]
+fn locked_heights_stay_and_the_walls_get_as_thin_as_without() {
+    for (seed, poses) in [(60, 30), (1, 30), (2, 10), (3, 3), (4, 60)] {
+        let job = room::trolley_job(seed, poses);
+        let [(_, free), (locked, steps)] =
+            [Height::Free, Height::Locked].map(|height| settled(&job, Way::Moments, height));
+        let (free, last) = (free[free.len() - 1], steps[steps.len() - 1]);
+        kept_their_heights(&job, &locked);
+        assert!(steps.iter().all(|now| now.lifted == 0.0));
+        // Far more than rounding, and far less than a wall is thick.
+        assert!((1e-6..0.001).contains(&free.lifted), "{free:?}");
+        // A height that is free takes up the noise of one number of variance 1. So many squares, one for each pose, have a sum of
+        // their number, and a variance of twice that; both adjustments stop a little above the least cost.
+        let number = poses as f64;
+        let (rise, stop) = (last.cost - free.cost, 1e-5 * free.cost);
+        let likely = -stop..number + 6.0 * (2.0 * number).sqrt() + stop;
+        assert!(likely.contains(&rise), "seed {seed}: {rise}");
     }
 }
 
 #[test]
 fn without_known_points_the_first_pose_stays() {
     let job = unanchored(room::job(5, 12));
-    let (poses, steps) = settled(&job, Way::Moments);
+    let (poses, steps) = settled(&job, Way::Moments, Height::Free);
     let last = steps[steps.len() - 1];
     let (metres, radians) = poses[0].distance(&job.stations[0].pose);
     assert!(metres < 1e-12 && radians < 1e-12);
     assert_ne!(poses[1], job.stations[1].pose);
-    assert!(
-        (last.thickness / room::NOISE - 1.0).abs() < 0.02,
-        "{last:?}"
-    );
+    assert!(is_noise(last.thickness), "{last:?}");
+}
+
+#[test]
+fn without_known_points_locked_heights_stay_and_so_does_the_first_place() {
+    let mut job = unanchored(room::trolley_job(5, 12));
+    for station in &mut job.stations {
+        // At the scanner's own height a site may begin too, and a zero shows the least rounding.
+        station.pose.shift[2] = 0.0;
+    }
+    let (poses, steps) = settled(&job, Way::Moments, Height::Locked);
+    let last = steps[steps.len() - 1];
+    kept_their_heights(&job, &poses);
+    let [now, before] = [poses[0], job.stations[0].pose];
+    assert!((0..2).all(|r| (now.shift[r] - before.shift[r]).abs() < 1e-12));
+    // The heading stays, and the tilt is adjusted: the turn that is left is about an axis that is level.
+    let [x, y, _] = now.after(&before.inverse()).rotation;
+    assert!((x[1] - y[0]).abs() < 1e-12);
+    assert_ne!(poses[1], job.stations[1].pose);
+    assert!(is_noise(last.thickness), "{last:?}");
 }
 
 /// The job without what is known in the site.
@@ -459,12 +613,11 @@ fn squares(job: &Job, points: impl Iterator<Item = Vector>) -> f64 {
 /// are products of two coordinates of a point, as the frame sees it or in the site, over sigma squared, and the pose gives way most
 /// in its softest direction.
 fn whole_step(job: &Job, normal: &NormalEquations, poses: &[Pose]) -> f64 {
+    let unknowns = normal.order() / poses.len();
     let of_pose = |(k, pose): (usize, &Pose)| {
         let seen = || job.stations[k].points.iter().map(|(_, p)| *p);
         let in_site = seen().map(|p| pose.to_site(&p));
-        let column = |c: usize| (0..DOF).map(move |r| normal.hessian(DOF * k + r, DOF * k + c));
-        let block: Vec<f64> = (0..DOF).flat_map(column).collect();
-        let (stiffness, _) = lapack::symmetric_eigen(DOF, block).unwrap();
+        let (stiffness, _) = lapack::symmetric_eigen(unknowns, block(normal, unknowns, k)).unwrap();
         squares(job, seen().chain(in_site)) / stiffness[0]
     };
     poses.iter().enumerate().map(of_pose).fold(0.0, f64::max)
@@ -472,16 +625,18 @@ fn whole_step(job: &Job, normal: &NormalEquations, poses: &[Pose]) -> f64 {
 
 #[test]
 fn point_by_point_the_poses_end_where_moments_take_them() {
-    for job in [
-        room::job(60, 30),
-        room::job(3, 3),
-        unanchored(room::job(5, 12)),
+    for (job, height) in [
+        (room::job(60, 30), Height::Free),
+        (room::job(3, 3), Height::Free),
+        (unanchored(room::job(5, 12)), Height::Free),
+        (room::trolley_job(60, 30), Height::Locked),
+        (unanchored(room::trolley_job(5, 12)), Height::Locked),
     ] {
-        let (by_moments, steps) = settled(&job, Way::Moments);
-        let (by_points, again) = settled(&job, Way::Points);
+        let (by_moments, steps) = settled(&job, Way::Moments, height);
+        let (by_points, again) = settled(&job, Way::Points, height);
         assert_eq!(again.len(), steps.len());
 
-        let adjustment = Adjustment::new(&job, Way::Points).unwrap();
+        let adjustment = Adjustment::new(&job, Way::Points, height).unwrap();
         let (normal, _) = adjustment.normal_equations(&job, &by_points).unwrap();
         // Steps close in, so that none makes larger what those before it were off.
         let off = rounding(&adjustment) * whole_step(&job, &normal, &by_points);
@@ -508,11 +663,14 @@ fn thinned(mut job: Job, one_of: usize) -> Job {
 
 #[test]
 fn the_points_of_a_job_add_what_their_moments_add() {
-    for job in [thinned(room::job(60, 30), 7), thinned(room::job(2, 10), 5)] {
+    for (job, height) in [
+        (thinned(room::job(60, 30), 7), Height::Free),
+        (thinned(room::job(2, 10), 5), Height::Free),
+        (thinned(room::job(60, 30), 7), Height::Locked),
+    ] {
         let [by_moments, by_points] =
-            [Way::Moments, Way::Points].map(|way| Adjustment::new(&job, way).unwrap());
-        let odometry: Vec<Pose> = job.stations.iter().map(|s| s.pose).collect();
-        for poses in [odometry, settled(&job, Way::Points).0] {
+            [Way::Moments, Way::Points].map(|way| Adjustment::new(&job, way, height).unwrap());
+        for poses in [odometry(&job), settled(&job, Way::Points, height).0] {
             // Cost, g and H sum up products of two coordinates of a point, as a frame sees it or in the site, over sigma squared.
             let own = |(s, pose): (&Station, &Pose)| -> Vec<Vector> {
                 let both = |(_, p): &(usize, Vector)| [*p, pose.to_site(p)];
