@@ -9,16 +9,21 @@ use std::hint::black_box;
 
 /// Frames that a batch goes through, in as many planes as that makes.
 const FRAMES: usize = 256;
-const SIGMA: f64 = 0.05;
+pub const SIGMA: f64 = 0.05;
+
+/// The planes of a batch, with so many frames each.
+pub fn planes_of(frames: usize, generator: &mut Generator) -> Vec<Plane> {
+    let number = (FRAMES / frames).max(1);
+    (0..number)
+        .map(|_| Plane::random(frames, generator))
+        .collect()
+}
 
 /// Prints the rows of the frames.
 pub fn measure_all() {
     let mut generator = Generator::named(754, "frames");
     for frames in [8, 32, 256] {
-        let number = (FRAMES / frames).max(1);
-        let planes: Vec<Plane> = (0..number)
-            .map(|_| Plane::random(frames, &mut generator))
-            .collect();
+        let planes = planes_of(frames, &mut generator);
         measure_accumulate::<3>(&planes);
         measure_accumulate::<6>(&planes);
         measure_accumulate::<7>(&planes);
@@ -31,29 +36,47 @@ pub fn measure_all() {
     }
 }
 
-fn of(planes: &[Plane]) -> String {
+/// How many frames each of the planes has.
+pub fn of(planes: &[Plane]) -> String {
     format!("{} frames", planes[0].frames.len())
 }
 
 /// A Hessian, a gradient and a cost.
 #[derive(Clone, Debug, PartialEq)]
-struct Normal {
-    hessian: Vec<f64>,
-    gradient: Vec<f64>,
-    cost: f64,
+pub struct Normal {
+    pub hessian: Vec<f64>,
+    pub gradient: Vec<f64>,
+    pub cost: f64,
+}
+
+impl Normal {
+    /// All zeros, of so many rows.
+    pub fn zeros(order: usize) -> Normal {
+        Normal {
+            hessian: vec![0.0; order * order],
+            gradient: vec![0.0; order],
+            cost: 0.0,
+        }
+    }
+
+    /// The bit patterns of all numbers.
+    pub fn bits(&self) -> Vec<u64> {
+        let numbers = self.hessian.iter().chain(&self.gradient);
+        numbers.chain([&self.cost]).map(|x| x.to_bits()).collect()
+    }
+}
+
+/// A map of segments of so many rows, and the order of its Hessian: each frame has rows of its own as far as they go, and
+/// then those of an earlier one.
+pub fn segments(frames: usize, width: usize) -> (Vec<u32>, usize) {
+    let own = frames.min(MAX_ORDER / width);
+    let map = (0..frames).map(|k| (k % own * width) as u32).collect();
+    (map, own * width)
 }
 
 fn measure_accumulate<const WIDTH: usize>(planes: &[Plane]) {
-    // Each frame has rows of its own as far as they go, and then those of an earlier one.
-    let frames = planes[0].frames.len();
-    let own = frames.min(MAX_ORDER / WIDTH);
-    let map: Vec<u32> = (0..frames).map(|k| (k % own * WIDTH) as u32).collect();
-    let order = own * WIDTH;
-    let zeros = Normal {
-        hessian: vec![0.0; order * order],
-        gradient: vec![0.0; order],
-        cost: 0.0,
-    };
+    let (map, order) = segments(planes[0].frames.len(), WIDTH);
+    let zeros = Normal::zeros(order);
     let library = |normal: &mut Normal| {
         for plane in black_box(planes) {
             _ = slices::frames_accumulate(
@@ -296,44 +319,44 @@ fn measure_linearize<const WIDTH: usize>(planes: &[Plane]) {
 }
 
 /// The same in plain Rust: the compiler inlines all below the outermost functions, which are called as the library's are.
-mod plain {
+pub mod plain {
     use super::{black_box, ACTION, CENTRED, DECOMPOSITION, MAX_ORDER};
     use maghnelt::{MAX_FRAMES, MAX_WORDS, UNMAPPED};
 
-    type Frame = [f64; CENTRED];
-    type Action = [f64; ACTION];
-    type Decomposition = [f64; DECOMPOSITION];
+    pub type Frame = [f64; CENTRED];
+    pub type Action = [f64; ACTION];
+    pub type Decomposition = [f64; DECOMPOSITION];
 
     /// Where mean and scatter are in a frame, after the count.
-    const MEAN: usize = 1;
-    const SCATTER: usize = 4;
+    pub const MEAN: usize = 1;
+    pub const SCATTER: usize = 4;
 
     #[inline(always)]
-    fn dot(a: [f64; 3], b: [f64; 3]) -> f64 {
+    pub fn dot(a: [f64; 3], b: [f64; 3]) -> f64 {
         a[0] * b[0] + a[1] * b[1] + a[2] * b[2]
     }
 
     #[inline(always)]
-    fn three(numbers: &[f64], from: usize) -> [f64; 3] {
+    pub fn three(numbers: &[f64], from: usize) -> [f64; 3] {
         [numbers[from], numbers[from + 1], numbers[from + 2]]
     }
 
     /// A·mean + b.
     #[inline(always)]
-    fn centre(a: &Action, frame: &Frame) -> [f64; 3] {
+    pub fn centre(a: &Action, frame: &Frame) -> [f64; 3] {
         let [x, y, z] = three(frame, MEAN);
         std::array::from_fn(|r| a[r] * x + a[3 + r] * y + a[6 + r] * z + a[9 + r])
     }
 
     /// A symmetric or any other matrix by columns times a vector.
     #[inline(always)]
-    fn times(m: &[f64], v: [f64; 3]) -> [f64; 3] {
+    pub fn times(m: &[f64], v: [f64; 3]) -> [f64; 3] {
         std::array::from_fn(|r| m[r] * v[0] + m[3 + r] * v[1] + m[6 + r] * v[2])
     }
 
     /// The plane: normal and offset.
     #[inline(always)]
-    fn fit(
+    pub fn fit(
         frames: &[Frame],
         fixed: Option<&Frame>,
         actions: &[Action],
@@ -363,7 +386,7 @@ mod plain {
 
     /// The derivatives of Aᵀn and of the mean's distance.
     #[inline(always)]
-    fn derivatives<const W: usize>(
+    pub fn derivatives<const W: usize>(
         a: &Action,
         n: [f64; 3],
         mean: [f64; 3],

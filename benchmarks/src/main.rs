@@ -14,6 +14,7 @@ mod plane;
 mod planes;
 mod square_root;
 mod total_order;
+mod transforms;
 
 /// A subject's name and what prints its rows or its table.
 type Subject = (&'static str, fn());
@@ -30,6 +31,7 @@ const SUBJECTS: &[Subject] = &[
     ("frames", frames::measure_all),
     ("matches", matches::measure_all),
     ("bundles", bundles::measure_all),
+    ("transforms", transforms::measure_all),
 ];
 
 /// What has a table of its own.

@@ -8,18 +8,18 @@ use oracle::scenes::action_of;
 use std::hint::black_box;
 
 /// The order of the Hessian, and where the list's rows begin.
-const ORDER: usize = 24;
-const OFFSET: usize = 6;
+pub const ORDER: usize = 24;
+pub const OFFSET: usize = 6;
 
 /// A list of matches and the pose that they are on.
-struct List {
-    case: String,
-    matches: Vec<[f64; MATCH]>,
-    action: [f64; ACTION],
+pub struct List {
+    pub case: String,
+    pub matches: Vec<[f64; MATCH]>,
+    pub action: [f64; ACTION],
 }
 
 impl List {
-    fn random(matches: usize, generator: &mut Generator) -> List {
+    pub fn random(matches: usize, generator: &mut Generator) -> List {
         let pose = Pose::random(generator);
         let wall = Wall::random(generator);
         let mut one = || {
@@ -176,17 +176,17 @@ fn measure_linearize<const WIDTH: usize>(list: &List) {
 
 /// The same in plain Rust: the compiler knows the width and inlines all below the outermost functions, which are called as
 /// the library's are and test every match as they do.
-mod plain {
+pub mod plain {
     use maghnelt::{ACTION, MATCH};
 
-    type Match = [f64; MATCH];
-    type Action = [f64; ACTION];
+    pub type Match = [f64; MATCH];
+    pub type Action = [f64; ACTION];
 
     /// Matches of one group.
     const GROUP: usize = 512;
 
     #[inline(always)]
-    fn bad(m: &Match) -> bool {
+    pub fn bad(m: &Match) -> bool {
         !(m[0].is_finite() && m[1].is_finite() && m[2].is_finite())
             || !(m[7].is_finite() && m[7] > 0.0)
     }
@@ -226,6 +226,24 @@ mod plain {
         if matches.iter().any(bad) {
             return f64::NAN;
         }
+        let (h, g, cost) = sums::<WIDTH>(matches, action);
+        let order = gradient.len();
+        for j in 0..WIDTH {
+            let column = &mut hessian[(offset + j) * order + offset..][..WIDTH];
+            for i in 0..WIDTH {
+                column[i] += h[j][i];
+            }
+            gradient[offset + j] += g[j];
+        }
+        cost
+    }
+
+    /// The block by columns, the vector and the cost.
+    #[inline(always)]
+    pub fn sums<const WIDTH: usize>(
+        matches: &[Match],
+        action: &Action,
+    ) -> ([[f64; WIDTH]; WIDTH], [f64; WIDTH], f64) {
         let mut h = [[0.0; WIDTH]; WIDTH];
         let mut g = [0.0; WIDTH];
         let mut cost = 0.0;
@@ -253,15 +271,7 @@ mod plain {
             }
             cost += group_cost;
         }
-        let order = gradient.len();
-        for j in 0..WIDTH {
-            let column = &mut hessian[(offset + j) * order + offset..][..WIDTH];
-            for i in 0..WIDTH {
-                column[i] += h[j][i];
-            }
-            gradient[offset + j] += g[j];
-        }
-        cost
+        (h, g, cost)
     }
 
     #[inline(never)]
