@@ -35,9 +35,7 @@ someMisfit dof shape words = somewhere words (misfitAt dof shape)
 -- 9, of every word of the map; 14 directly after it; and 10, of the frames that exist: the last tests of a call that accumulates `count` frames
 abbrev pub throughReasons : List ℕ → (ℕ → Shape) → ℕ → ℕ → ℕ → List Reason
 throughReasons map shape count dof n =
-    9 when badWords map ∷
-    14 when someMisfit dof shape (length map) ∷
-    10 when someExceeds n (widthAt shape dof) (lookup map) count ∷ []
+    9 when badWords map ∷ 14 when someMisfit dof shape (length map) ∷ 10 when someExceeds n (widthAt shape dof) (lookup map) count ∷ []
 
 unfoldable pub throughRefusal : List ℕ → (ℕ → Shape) → ℕ → ℕ → ℕ → ℕ
 throughRefusal map shape count dof n = firstOf (throughReasons map shape count dof n)

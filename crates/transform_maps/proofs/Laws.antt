@@ -1,21 +1,22 @@
 -- Laws of the multiplying call: a word that is written, a transform that is made, and what is known where the call is accepted. Assumes nothing.
-use Prim.Native.Nat.{ℕ, zero, suc, _+_, _*_, _/_, _%_, _≤_, _<_}
-use native.Mathlib.Nat.{mul-comm, zero-add, div-add-mod', div-lt-iff-lt-mul, mod-lt, not-suc-le-zero, le-of-suc-le-suc}
+use Prim.Native.Nat.{ℕ, zero, suc, _+_, _*_, _-_, _≤_, _<_}
+use native.Mathlib.Nat.{mul-comm, zero-add, add-zero, zero-mul, suc-mul, not-suc-le-zero, le-of-suc-le-suc}
 use native.Mathlib.Numerals.{add-one}
 use native.Mathlib.Omega.{arith}
 use mathlib.Core.Path.{_≡_, refl, sym, ap, _∙_}
 use mathlib.Core.Bool.{Bool, true, false, not, _||_, cond}
 use mathlib.Core.List.{List, [], _∷_, _++_, append-assoc}
 use lib.Dec.{eqb, ltb}
-use lib.ListN.{length, getD, set, take, drop, List·getD-eq-default, length-append, length-replicate}
-use lib.Seq.{sets-eq}
+use lib.ListN.{length, getD, set, take, drop, List·getD-eq-default, length-append, replicate, length-replicate, replicate-append-replicate}
+use lib.Seq.{sets-eq, take-at, drop-append-add}
 use lib.Ieee.{Float, nan}
 use borrow.Author.Tests.{ltb-false, eqb-true, not-false}
-use Rattle.sums.specs.Sum.{_⊗_, zeroF, sumTo, tab}
-use Rattle.sums.specs.Laws.{length-tab, tab-same, tab-getD, sumTo-same}
-use Rattle.sums.specs.Fill.{written, padded, padded-same}
+use Rattle.sums.specs.Sum.{_⊗_, zeroF, sumTo, tab, grid}
+use Rattle.sums.specs.Laws.{length-tab, tab-same, tab-getD, getD-tab, sumTo-same, length-grid, grid-column}
+use Rattle.sums.specs.Fill.{written, padded, column-ends}
 use Rattle.refusals.specs.Refusal.{none, either-none}
-use Rattle.terms.specs.Terms.{upto}
+use Rattle.terms.specs.Terms.{cellOf, upto}
+use Rattle.terms.specs.Places.{grid-of-cells}
 use Rattle.normal_blocks.specs.Somewhere.{nowhere-at}
 use Rattle.normal_blocks.specs.Map.{badWords}
 use Rattle.normal_blocks.specs.Calls.{MOST_WORDS}
@@ -117,20 +118,43 @@ module _ (numbers : List Float) (place : ℕ) (made : List Float) (size : length
         → out′ ≡ take (k * ROOM) out ++ (numbersAfter numbers place made k ++ drop (k * ROOM + ROOM) out)
     old-written there fit e = e ∙ written-as out ROOM (ROOM * k) (k * ROOM) (numberFrom numbers (ROOM * k)) _ (inside-part ROOM numbers (ROOM * k) fit ∙ after-there k there) (mul-comm ROOM k)
 
--- ---- what is made: of the further one alone, and of both
--- entry e of a matrix of so many rows and columns
-pub entry-place : (rows cols e : ℕ) → e < rows * cols → (0 < rows) × (e % rows < rows) × (e / rows < cols)
-entry-place zero cols e h = absurd (omega arith)
-entry-place (suc n) cols e h =
-    let rows = suc n in
-    let some : 0 < rows = omega arith in
-    (some, mod-lt e some, div-lt-iff-lt-mul some .1 (rw (mul-comm rows cols) at h))
+-- ---- what is made, column after column
+-- +0 without the first n numbers
+fewer-zeros : (n m : ℕ) → drop n (replicate (n + m) zeroF) ≡ replicate m zeroF
+fewer-zeros n m =
+    ap (drop n) (sym (replicate-append-replicate n m zeroF)) ∙ rw (length-replicate n zeroF, add-zero n) at (drop-append-add (replicate n zeroF) (replicate m zeroF) 0)
 
-pub alone-is : (rows cols : ℕ) (further : List Float) → padded ROOM (rows * cols) (numberFrom further 0) ≡ newlyMade rows cols (entryFrom further 0 rows)
-unfolding newlyMade entryFrom numberFrom
-alone-is rows cols further = padded-same ROOM (rows * cols) _ _ (λ e l. rw (div-add-mod' e rows))
+module _ (rows : ℕ) (t : ℕ → ℕ → Float) where
+  pub made-none : replicate ROOM zeroF ≡ newlyMade rows 0 t
+  unfolding newlyMade
+  made-none = rw (zero-mul rows)
 
--- the sum of products at even steps is the entry of the product
+  pub made-more : (c : ℕ) (out out′ : List Float) → c * rows + rows ≤ ROOM → out′ ≡ written out (c * rows) rows (λ r. t r c) → out ≡ newlyMade rows c t → out′ ≡ newlyMade rows (c + 1) t
+  unfolding newlyMade written
+  made-more c out out′ fit wrote before =
+      let front = grid rows c t in
+      let zeros = replicate (ROOM - c * rows) zeroF in
+      let size : length front ≡ c * rows = length-grid rows c t in
+      let more : ROOM - c * rows ≡ rows + (ROOM - (c * rows + rows)) = omega arith in
+      let rest : drop (c * rows + rows) (front ++ zeros) ≡ replicate (ROOM - (c * rows + rows)) zeroF =
+      rw size at (drop-append-add front zeros rows) ∙ ap (λ (n : ℕ). drop rows (replicate n zeroF)) more ∙ fewer-zeros rows (ROOM - (c * rows + rows)) in
+      wrote ∙ rw (before, take-at front zeros (c * rows) size, rest, add-one c, suc-mul, grid-column rows c t, append-assoc)
+
+-- a transform that is newly made has 81 numbers
+pub length-made : (rows cols : ℕ) (t : ℕ → ℕ → Float) → cols * rows ≤ ROOM → length (newlyMade rows cols t) ≡ ROOM
+unfolding newlyMade
+length-made rows cols t h = simp (length-append, length-grid, length-replicate) (omega arith)
+
+-- the further one alone
+pub alone-is : (rows cols : ℕ) (further : List Float) → padded ROOM (cols * rows) (numberFrom further 0) ≡ newlyMade rows cols (entryFrom further 0 rows)
+unfolding padded newlyMade entryFrom numberFrom
+alone-is rows cols further =
+    let first = tab (cols * rows) (λ e. getD further (0 + e) nan) in
+    let same : first ≡ grid rows cols (λ r c. getD further (0 + (c * rows + r)) nan) =
+    grid-of-cells rows cols _ first (length-tab (cols * rows) _) (λ i j li lj. getD-tab (cols * rows) (λ e. getD further (0 + e) nan) (cellOf rows i j) (omega (arith, column-ends rows cols j lj))) in
+    rw same
+
+-- a sum of products at even steps is an entry of the product of both
 pub chained-steps : (rows inner : ℕ) (further numbers : List Float) (from r c : ℕ)
     → sumTo inner (λ k. getD further (r + k * rows) nan ⊗ getD numbers (from + c * inner + k * 1) nan) ≡ chained inner (entryFrom further 0 rows) (entryFrom numbers from inner) r c
 unfolding chained entryFrom
@@ -201,10 +225,10 @@ module _ (w : Work) (os on : ℕ) (ok : transformRefusal w os on ≡ 0) where
       let p = further-fits (w .dof) rows cols (oldOf w) h in
       (record { narrow = p .0 .narrow; tall = refl }, p .1)
 
-  pub alone-fits : w .dof * widthUnder (furtherOf w) 0 ≤ ROOM
+  pub alone-fits : widthUnder (furtherOf w) 0 * w .dof ≤ ROOM
   alone-fits =
       let a = accepted-work w os on ok in
-      rw (mul-comm (w .dof) (widthUnder (furtherOf w) 0)) (room (w .dof) (widthUnder (furtherOf w) 0) (a .narrow) (further-sized (furtherOf w) (a .fitting) .0 .narrow))
+      room (w .dof) (widthUnder (furtherOf w) 0) (a .narrow) (further-sized (furtherOf w) (a .fitting) .0 .narrow)
 
   pub alone-columns : widthUnder (furtherOf w) 0 ≤ 9
   alone-columns = further-sized (furtherOf w) (accepted-work w os on ok .fitting) .0 .narrow
@@ -218,21 +242,11 @@ module _ (w : Work) (os on : ℕ) (ok : transformRefusal w os on ≡ 0) where
         let chain : widthUnder (furtherOf w) 0 ≡ inner = old-chains (widthUnder (furtherOf w) 0) inner width (rw e at (f .1)) in
         (old-narrow (shapeAt (w .shapes)) (length (w .map)) (w .place) inner width (a .wide) (there .0) e, omega (arith, chain, f .0 .narrow), there .1)
 
-    pub chained-fits : (w .dof * width ≤ ROOM) × (inner * w .dof ≤ length (w .further)) × (ROOM * w .place + width * inner ≤ length (w .transforms))
+    pub chained-fits : (width * w .dof ≤ ROOM) × (inner * w .dof ≤ length (w .further)) × (ROOM * w .place + width * inner ≤ length (w .transforms))
     chained-fits =
         let a = accepted-work w os on ok in
         let k = chained-known in
-        (rw (mul-comm (w .dof) width) (room (w .dof) width (a .narrow) (k .0)), rw (a .further-long) (room (w .dof) inner (a .narrow) (k .1)), omega (arith, room inner width (k .1) (k .0), k .2))
-
--- a padded row is as long as it is said to be
-length-padded : (n width : ℕ) (f : ℕ → Float) → width ≤ n → length (padded n width f) ≡ n
-unfolding padded
-length-padded n width f h = simp (length-append, length-tab, length-replicate) (omega arith)
-
--- a transform that is newly made has 81 numbers
-pub length-made : (rows cols : ℕ) (t : ℕ → ℕ → Float) → rows * cols ≤ ROOM → length (newlyMade rows cols t) ≡ ROOM
-unfolding newlyMade
-length-made rows cols t h = length-padded ROOM (rows * cols) _ h
+        (room (w .dof) width (a .narrow) (k .0), rw (a .further-long) (room (w .dof) inner (a .narrow) (k .1)), omega (arith, room inner width (k .1) (k .0), k .2))
 
 -- ---- what the work leaves, without an old transform and with one
 module _ (w : Work) (cols : ℕ) (made : List Float) (to : List ℕ) (out : List Float)
