@@ -259,6 +259,81 @@ fn linearize_bundle(sample: &Sample, at: usize, x: &Numbers, p: &[u64], counts: 
     wrote(sample, at, answer, x, 4, &residual) & left(sample, at, 5, &jacobian)
 }
 
+fn accumulate_transformed(sample: &Sample, at: usize, x: &Numbers, p: &[u64], map: &[u32]) -> bool {
+    let mut room = [0; 1100];
+    let shapes = sample::words(sample, case::words(sample, at, 2), &mut room);
+    let mut hessian = [0.0; 8192];
+    let mut gradient = [0.0; 8192];
+    let mut cost = number(x, 7);
+    let answer = maghnelt::maghnelt_frames_accumulate_transformed(
+        word(sample, at, 0),
+        numbers(sample, at, x, 0),
+        numbers(sample, at, x, 1),
+        number(x, 2),
+        numbers(sample, at, x, 3),
+        p,
+        map,
+        shapes,
+        numbers(sample, at, x, 4),
+        written(sample, at, 5, &mut hessian),
+        written(sample, at, 6, &mut gradient),
+        &mut cost,
+    );
+    wrote(sample, at, answer, x, 5, &hessian)
+        & left(sample, at, 6, &gradient)
+        & left_number(sample, at, 7, cost)
+        & left_words(sample, at, 2, shapes)
+}
+
+fn accumulate_matches_transformed(sample: &Sample, at: usize, x: &Numbers, map: &[u32]) -> bool {
+    let mut room = [0; 1100];
+    let shapes = sample::words(sample, case::words(sample, at, 2), &mut room);
+    let mut hessian = [0.0; 8192];
+    let mut gradient = [0.0; 8192];
+    let mut cost = number(x, 5);
+    let answer = maghnelt::maghnelt_matches_accumulate_transformed(
+        word(sample, at, 0),
+        numbers(sample, at, x, 0),
+        numbers(sample, at, x, 1),
+        map,
+        shapes,
+        numbers(sample, at, x, 2),
+        written(sample, at, 3, &mut hessian),
+        written(sample, at, 4, &mut gradient),
+        &mut cost,
+    );
+    wrote(sample, at, answer, x, 3, &hessian)
+        & left(sample, at, 4, &gradient)
+        & left_number(sample, at, 5, cost)
+        & left_words(sample, at, 2, shapes)
+}
+
+fn transform(sample: &Sample, at: usize, x: &Numbers, map: &[u32]) -> bool {
+    let mut first = [0; 1100];
+    let shapes = sample::words(sample, case::words(sample, at, 2), &mut first);
+    let mut second = [0; 1100];
+    let further_shape = sample::words(sample, case::words(sample, at, 4), &mut second);
+    let place = word(sample, at, 3);
+    let mut out_shapes = [0; 1100];
+    let mut out_transforms = [0.0; 8192];
+    let answer = maghnelt::maghnelt_transform(
+        word(sample, at, 0),
+        map,
+        shapes,
+        numbers(sample, at, x, 0),
+        place,
+        further_shape,
+        numbers(sample, at, x, 1),
+        sample::words(sample, case::words(sample, at, 5), &mut out_shapes),
+        written(sample, at, 2, &mut out_transforms),
+    );
+    wrote(sample, at, answer, x, 2, &out_transforms)
+        & left_words(sample, at, 2, shapes)
+        & left_word(sample, at, 3, place)
+        & left_words(sample, at, 4, further_shape)
+        & left_words(sample, at, 5, &out_shapes)
+}
+
 // Whether a case's call answers and leaves what it should, but for the words that no call of its kind writes.
 pub fn agrees(sample: &Sample, at: usize, x: &Numbers, p: &[u64], words: &[u32]) -> bool {
     match case::call(sample, at) {
@@ -280,6 +355,9 @@ pub fn agrees(sample: &Sample, at: usize, x: &Numbers, p: &[u64], words: &[u32])
         15 => linearize_match(sample, at, x),
         16 => fit_bundle(sample, at, x),
         17 => linearize_bundle(sample, at, x, p, words),
+        18 => accumulate_transformed(sample, at, x, p, words),
+        19 => accumulate_matches_transformed(sample, at, x, words),
+        20 => transform(sample, at, x, words),
         _ => false,
     }
 }

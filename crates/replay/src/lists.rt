@@ -7,13 +7,13 @@ use crate::sample::least;
 use crate::sample::place;
 
 // The lists of numbers of a case.
-pub type Numbers = [f64; 57344];
+pub type Numbers = [f64; 65536];
 
 // Room for one of them.
 pub type Room = [f64; 8192];
 
 pub fn no_numbers() -> Numbers {
-    [0.0; 57344]
+    [0.0; 65536]
 }
 
 // Lays out the lists of numbers that a case hands in.
@@ -43,7 +43,7 @@ pub fn numbers<'a>(sample: &Sample, at: usize, x: &'a Numbers, k: u32) -> &'a [f
 // The number that list k is.
 pub fn number(x: &Numbers, k: u32) -> f64 {
     let from = place(k) << 13;
-    if from < 57344 { x[from] } else { 0.0 }
+    if from < 65536 { x[from] } else { 0.0 }
 }
 
 // The word that list k of the words is.

@@ -11,7 +11,7 @@ use sample::Sample;
 
 // Room for the sample.
 fn room() -> Sample {
-    [0; 600000]
+    [0; 700000]
 }
 
 // Whether the call of a case answers and leaves what it should.

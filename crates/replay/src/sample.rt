@@ -4,7 +4,7 @@
 ghost use Prim.Native.Nat.{_≤_};
 
 // The sample, and zeros after it.
-pub type Sample = [u8; 600000];
+pub type Sample = [u8; 700000];
 
 fn wide(x: u8) -> u32 {
     x as u32
@@ -16,7 +16,7 @@ pub fn place(x: u32) -> usize {
 
 // A byte; 0 past the end.
 fn byte(sample: &Sample, at: usize) -> u32 {
-    if at < 600000 { wide(sample[at]) } else { 0 }
+    if at < 700000 { wide(sample[at]) } else { 0 }
 }
 
 // A unit; 0 past the end.

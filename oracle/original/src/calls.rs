@@ -192,4 +192,14 @@ calls! {
     BUNDLE_LINEARIZE "bundle_linearize" maghnelt_bundle_linearize(
         dof: word, counts: words, points: numbers, d_state: numbers, fixed: numbers, sigma: number,
         decomposition: numbers, residual: out_numbers, jacobian: out_numbers)
+    FRAMES_ACCUMULATE_TRANSFORMED "frames_accumulate_transformed" maghnelt_frames_accumulate_transformed(
+        dof: word, frames: numbers, fixed: numbers, sigma: number, actions: numbers, decomposition: numbers,
+        map: words, shapes: words, transforms: numbers, hessian: out_numbers, gradient: out_numbers,
+        cost: out_number)
+    MATCHES_ACCUMULATE_TRANSFORMED "matches_accumulate_transformed" maghnelt_matches_accumulate_transformed(
+        dof: word, matches: numbers, action: numbers, map: words, shapes: words, transforms: numbers,
+        hessian: out_numbers, gradient: out_numbers, cost: out_number)
+    TRANSFORM "transform" maghnelt_transform(
+        dof: word, map: words, shapes: words, transforms: numbers, place: word, further_shape: words,
+        further: numbers, out_shapes: out_words, out_transforms: out_numbers)
 }

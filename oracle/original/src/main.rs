@@ -97,7 +97,7 @@ fn compare(arguments: &Arguments) -> ExitCode {
     }
     for call in CALLS {
         let cases = tally.cases.get(call.name).unwrap_or(&0);
-        println!("{:24} {cases:>9} calls", call.name);
+        println!("{:30} {cases:>9} calls", call.name);
     }
     println!(
         "{} calls, {} differences",

@@ -94,13 +94,20 @@ pub mod factors {
     // The trait `Factor` and the type `NormalBlocks`.
     include!(concat!(env!("OUT_DIR"), "/cuts.rs"));
 
-    /// Beside the text of `NormalBlocks`: where each block goes.
+    /// Beside the text of `NormalBlocks`: where each block goes, and what transforms it.
     pub mod beside {
+        use nalgebra::DMatrix;
+
         /// The offset of each block, none where it is dropped.
         pub fn offsets(blocks: &super::NormalBlocks<'_>) -> Vec<Option<usize>> {
             (0..blocks.blocks())
                 .map(|block| blocks.offset(block))
                 .collect()
+        }
+
+        /// The transform of each block, none where it has none; an empty list where no block has one.
+        pub fn transforms(blocks: &super::NormalBlocks<'_>) -> Vec<Option<DMatrix<f64>>> {
+            blocks.transforms.clone()
         }
     }
 

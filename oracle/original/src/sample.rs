@@ -7,15 +7,15 @@
 //! words, 4 each), the lists that the call is handed, numbers before patterns before words, and the lists of numbers and of words as
 //! they are afterwards.
 
-use crate::calls::{Value, CALLS, FROM_POINTS, MATCHES_ACCUMULATE};
+use crate::calls::{Value, CALLS, FROM_POINTS};
 use crate::case::{After, Case, Cell};
 use crate::jobs::{few_states, JOBS};
 use oracle::generator::Generator;
-use std::collections::HashMap;
+use std::collections::{HashMap, HashSet};
 
-/// The most numbers of a list, and of the lists of matches: one with more than a group is taken.
+/// The most numbers of a list; the fewest and the most of a list of matches that is longer: just more than a group of 512.
 const LONG: usize = 240;
-const LONGEST: usize = 4200;
+const LONGER: std::ops::Range<usize> = 8 * 513..8 * 516;
 /// The most patterns of a list.
 const PATTERNS: usize = 60;
 
@@ -28,6 +28,7 @@ const STATES: u64 = 2;
 fn taken_of(case: &Case) -> [usize; 3] {
     match (case.call.name, case.call.parameters[0]) {
         _ if is_long(case) => [1, 1, 0],
+        _ if has_transforms(case) => taken_transformed(case),
         _ if is_wide(case) => [10, 10, 0],
         // So many pairs can be spoilt that one of each would take a third of its room.
         ("bundle_linearize", _) if is_refused_twice(case) => [0, 4, 24],
@@ -39,10 +40,25 @@ fn taken_of(case: &Case) -> [usize; 3] {
     }
 }
 
+/// The same of a call that takes transforms: a wide Hessian is there for a wide transform.
+fn taken_transformed(case: &Case) -> [usize; 3] {
+    let is_transformed = case.kind.contains(" transform") && !case.kind.contains("no plane");
+    match case.call.name {
+        _ if is_wide(case) && case.answer == 0 && is_transformed => [1, 1, 0],
+        _ if is_wide(case) => [0; 3],
+        _ if case.answer == 14 => [4, 8, 24],
+        "transform" if case.answer == 0 => [5, 8, 60],
+        _ => [1, 2, 60],
+    }
+}
+
 /// A case's kind in the sample: of whatever group.
 fn key(case: &Case) -> String {
     if is_long(case) {
-        return "more than a group".to_string();
+        return format!("{} more than a group", case.call.name);
+    }
+    if has_transforms(case) {
+        return transformed_key(case);
     }
     if is_wide(case) {
         return format!("{} wide", case.call.name);
@@ -53,6 +69,26 @@ fn key(case: &Case) -> String {
     };
     format!("{} {kind} {}", case.call.name, case.answer)
 }
+
+/// The kind of a call with transforms: its other inputs count for less.
+fn transformed_key(case: &Case) -> String {
+    let words = case.kind.split(' ');
+    let kind = match case.answer {
+        0 if is_wide(case) => format!("wide {:?}", case.before[0]),
+        0 if case.kind.contains("no plane") => "no plane".to_string(),
+        0 => {
+            let counts = |word: &&str| !GROUPS.contains(word) && !BESIDE.contains(word);
+            words.filter(counts).collect::<Vec<_>>().join(" ")
+        }
+        _ if is_refused_twice(case) => "refused twice".to_string(),
+        _ if case.kind.starts_with("refused by") => case.kind.clone(),
+        _ => "refused".to_string(),
+    };
+    format!("{} {kind} {}", case.call.name, case.answer)
+}
+
+/// Words of a kind that say nothing of transforms.
+const BESIDE: [&str; 7] = ["any", "sets", "by", "hand", "fixed", "free", "few"];
 
 const GROUPS: [&str; 5] = ["SE3", "SE23", "Sim3", "SO3", "Affine"];
 
@@ -161,11 +197,14 @@ fn is_fit(case: &Case) -> bool {
         After::Numbers(cells) => !cells.iter().any(|cell| matches!(cell, Cell::Unseen)),
         _ => true,
     };
-    let room = |place: usize| match case.call.parameters[place] {
-        _ if is_pattern(case, place) => PATTERNS,
-        "hessian" | "jacobian" | "d_state" => 100,
-        "matches" if std::ptr::eq(case.call, &MATCHES_ACCUMULATE) => LONGEST,
-        _ => LONG,
+    let has_room = |place: usize| {
+        let length = case.before[place].len();
+        match case.call.parameters[place] {
+            _ if is_pattern(case, place) => length <= PATTERNS,
+            "hessian" | "jacobian" | "d_state" => length <= 100,
+            "matches" if sums_groups(case) && LONGER.contains(&length) => true,
+            _ => length <= LONG,
+        }
     };
     // Of two frames the actions are such as poses have, which are mostly zeros.
     let is_sparse = |value: &Value| match value {
@@ -175,7 +214,18 @@ fn is_fit(case: &Case) -> bool {
     let mut actions = case.before.iter().zip(case.call.parameters);
     case.after.iter().all(is_seen)
         && actions.all(|(value, name)| *name != "actions" || is_sparse(value))
-        && (0..case.before.len()).all(|place| case.before[place].len() <= room(place))
+        && (0..case.before.len()).all(has_room)
+}
+
+/// Whether matches as they are met are summed into a block, through a transform where the call takes them.
+fn sums_groups(case: &Case) -> bool {
+    let label = if has_transforms(case) {
+        " mapped one transform"
+    } else {
+        " mapped"
+    };
+    let is_summed = case.answer == 0 && case.call.name.starts_with("matches_accumulate");
+    is_summed && case.kind.contains("Met") && case.kind.ends_with(label)
 }
 
 fn is_long(case: &Case) -> bool {
@@ -187,6 +237,11 @@ fn is_wide(case: &Case) -> bool {
     let names = case.call.parameters.iter().zip(&case.before);
     let mut matrices = names.filter(|(name, _)| matches!(**name, "hessian" | "jacobian"));
     matrices.any(|(_, value)| value.len() > 25)
+}
+
+/// Whether a call takes transforms.
+fn has_transforms(case: &Case) -> bool {
+    case.call.parameters.contains(&"transforms")
 }
 
 /// Whether two things are spoilt.
@@ -207,7 +262,7 @@ pub fn sample(seed: u64) -> (Vec<u8>, usize) {
         for _ in 0..JOBS_DRAWN {
             let mut cases = Vec::new();
             (job.run)(&mut Generator::new(seeds.bits()), &mut cases);
-            for case in cases.iter().filter(|case| is_fit(case)) {
+            for case in fit(&cases) {
                 let number = taken.entry(key(case)).or_default();
                 let [least, most, few] = taken_of(case);
                 if *number < least || *number < most && needed(case, &lists) <= few {
@@ -218,6 +273,15 @@ pub fn sample(seed: u64) -> (Vec<u8>, usize) {
         }
     }
     (bytes(&stored, &lists), stored.len())
+}
+
+/// The cases of a job that may be stored; those with a long list only where two calls share it, so that it is stored once.
+fn fit(cases: &[Case]) -> Vec<&Case> {
+    let mut fit: Vec<&Case> = cases.iter().filter(|case| is_fit(case)).collect();
+    let long = fit.iter().filter(|case| is_long(case));
+    let calls: HashSet<&str> = long.map(|case| case.call.name).collect();
+    fit.retain(|case| !is_long(case) || calls.len() > 1);
+    fit
 }
 
 /// How many units a case's lists take that are not stored yet.

@@ -15,8 +15,8 @@ use original::factors::lidar::map_planes::{LidarMapPlanesFactor, PlaneMatch};
 use original::factors::lidar::plane::Plane;
 use original::factors::lidar::plane_bundle::{fit_plane_pca, LidarPlaneBundleFactor};
 use original::factors::lidar::plane_moments::{beside, PointMoments};
-use original::factors::{Factor, NormalBlocks};
-use original::jobs::JOBS;
+use original::factors::{beside as of_blocks, Factor, NormalBlocks};
+use original::jobs::{stepped, Step, JOBS};
 
 /// The identity with one degree of freedom: at the origin it shifts along x by 3, and x adds 1 to that.
 fn state() -> Vec<f64> {
@@ -196,33 +196,160 @@ fn a_bundle_is_tested_before_its_points_are_in_the_site() {
     assert_eq!(refused, Err(Refusal::NotFinite));
 }
 
+/// Has blocks at these offsets, in a Hessian and a gradient of order n that hold a number everywhere, lent after some steps,
+/// and hands back what they hold then.
+fn lent(
+    n: usize,
+    first: f64,
+    offsets: &[usize],
+    steps: &[Step],
+    work: impl FnOnce(&mut NormalBlocks<'_>),
+) -> (Vec<f64>, Vec<f64>) {
+    let mut hessian = DMatrix::from_fn(n, n, |_, _| first);
+    let mut gradient = DVector::from_fn(n, |_, _| first);
+    let mut blocks = NormalBlocks::new(&mut hessian, &mut gradient, offsets);
+    stepped(&mut blocks, steps, work);
+    (hessian.as_slice().to_vec(), gradient.as_slice().to_vec())
+}
+
 /// Accumulates one frame at an offset into a Hessian of order n, by a fit with these eigenvalues.
 fn accumulated<G: ActsOnPoints3 + Send + Sync + 'static>(
     params: &[f64],
     values: [f64; 3],
     n: usize,
     offset: usize,
+    steps: &[Step],
 ) -> Option<f64> {
     let factor = beside::of_centred::<G>(&[[4.0; 13]], None, 1.0);
-    let mut hessian = DMatrix::from_fn(n, n, |_, _| 0.0);
-    let mut gradient = DVector::from_fn(n, |_, _| 0.0);
     eigen::hand_in([along_axes(values)]);
-    let offsets = [offset];
-    let mut blocks = NormalBlocks::new(&mut hessian, &mut gradient, &offsets);
-    factor.accumulate_normal(&[params], Some(&mut blocks))
+    let mut cost = None;
+    lent(n, 0.0, &[offset], steps, |blocks| {
+        cost = factor.accumulate_normal(&[params], Some(blocks));
+    });
+    cost
 }
 
 #[test]
 #[should_panic(expected = "out of bounds")]
 fn a_segment_past_the_end_panics() {
-    accumulated::<Affine<1>>(&state(), [0.0, 1.0, 2.0], 1, 1);
+    accumulated::<Affine<1>>(&state(), [0.0, 1.0, 2.0], 1, 1, &[]);
 }
 
 #[test]
 fn without_a_plane_or_a_parameter_it_does_not() {
-    let cost = accumulated::<Affine<1>>(&state(), [1.0, 1.0, 1.0], 1, 1);
+    let cost = accumulated::<Affine<1>>(&state(), [1.0, 1.0, 1.0], 1, 1, &[]);
     assert_eq!(cost, Some(0.0));
-    assert!(accumulated::<Affine<0>>(&state()[..12], [0.0, 1.0, 2.0], 0, 1).is_some());
+    assert!(accumulated::<Affine<0>>(&state()[..12], [0.0, 1.0, 2.0], 0, 1, &[]).is_some());
+}
+
+/// A pose's frame, whose block loses its last column, accumulated into a Hessian of order n.
+fn without_a_column(n: usize) -> Option<f64> {
+    let pose = [0.0, 0.0, 0.0, 1.0, 0.0, 0.0, 0.0];
+    let locked = DMatrix::from_fn(6, 5, |row, column| f64::from(u8::from(row == column)));
+    let steps = [Step::Transformed(0, locked)];
+    accumulated::<SE3>(&pose, [0.0, 1.0, 2.0], n, 0, &steps)
+}
+
+#[test]
+fn a_segment_is_as_wide_as_its_transform() {
+    assert!(without_a_column(5).is_some());
+}
+
+#[test]
+#[should_panic(expected = "out of bounds")]
+fn a_transformed_segment_past_the_end_panics() {
+    without_a_column(4);
+}
+
+/// A step that transforms block 0 by columns of this many rows.
+fn by(rows: usize, columns: &[f64]) -> Step {
+    let matrix = match rows {
+        0 => DMatrix::from_fn(0, 1, |_, _| 0.0),
+        _ => DMatrix::from_column_slice(rows, columns.len() / rows, columns),
+    };
+    Step::Transformed(0, matrix)
+}
+
+/// What a block and a vector come to as block 0, at the start of a Hessian and a gradient of order 1 that hold this number.
+fn through(steps: &[Step], first: f64, block: &[f64], vector: &[f64]) -> (f64, f64) {
+    let dof = vector.len();
+    let (hessian, gradient) = lent(1, first, &[0], steps, |blocks| {
+        blocks.add_hessian(0, 0, &DMatrix::from_column_slice(dof, dof, block));
+        blocks.add_gradient(0, &DVector::from_column_slice(vector));
+    });
+    (hessian[0], gradient[0])
+}
+
+#[test]
+fn a_transform_in_whole_numbers() {
+    let (m, steps) = ([1.0, 4.0, 3.0, 5.0], [by(2, &[1.0, 2.0])]);
+    assert_eq!(through(&steps, 0.0, &m, &[5.0, 6.0]), (35.0, 17.0));
+    // The left product alone, where the block's columns are those of another that is not transformed.
+    let (hessian, _) = lent(3, 0.0, &[0, 1], &steps, |blocks| {
+        blocks.add_hessian(0, 1, &DMatrix::from_column_slice(2, 2, &m));
+    });
+    assert_eq!(hessian, [0.0, 0.0, 0.0, 9.0, 0.0, 0.0, 13.0, 0.0, 0.0]);
+}
+
+/// From here on whole numbers are no longer all there: one more rounds back to it.
+const WHOLE: f64 = 9_007_199_254_740_992.0;
+
+#[test]
+fn the_left_product_comes_first() {
+    // The left one is (WHOLE, 1 - WHOLE). With the right one first, (0, 2), the block would come to 2.
+    let m = [WHOLE, 1.0, -WHOLE, 1.0];
+    let (hessian, _) = through(&[by(2, &[1.0, 1.0])], 0.0, &m, &[0.0, 0.0]);
+    assert_eq!(hessian, 1.0);
+}
+
+#[test]
+fn products_are_added_in_rising_index() {
+    // From the last one on the sum would be 1.
+    let steps = [by(3, &[1.0, 1.0, 1.0]), by(1, &[WHOLE, 1.0, -WHOLE])];
+    let (_, gradient) = through(&steps[..1], 0.0, &[0.0; 9], &[WHOLE, 1.0, -WHOLE]);
+    assert_eq!(gradient, 0.0);
+    let (_, gradient) = through(&steps, 5.0, &[0.0], &[1.0]);
+    assert_eq!(gradient, 5.0);
+}
+
+#[test]
+fn each_product_is_rounded_before_it_is_added() {
+    // The square of `more` rounds to `twice`; what it rounds away would be seen in a fused sum.
+    let (more, twice) = (1.0 + 2f64.powi(-30), 1.0 + 2f64.powi(-29));
+    let steps = [by(2, &[-1.0, more])];
+    let sums = through(&steps, 0.0, &[twice, more, more, 1.0], &[twice, more]);
+    assert_eq!(sums, (0.0, 0.0));
+}
+
+#[test]
+fn the_sign_of_a_zero() {
+    let bits = |steps: &[Step], block: &[f64], vector: &[f64]| {
+        let (hessian, gradient) = through(steps, -0.0, block, vector);
+        [hessian.is_sign_negative(), gradient.is_sign_negative()]
+    };
+    // A sum of no products is +0, which turns a cell of -0 into +0; one of products that are -0 is -0.
+    assert_eq!(bits(&[by(0, &[])], &[], &[]), [false; 2]);
+    let zeros = [-0.0; 4];
+    assert_eq!(bits(&[by(2, &[1.0, 1.0])], &zeros, &zeros[..2]), [true; 2]);
+    assert_eq!(bits(&[by(1, &[-0.0])], &[1.0], &[1.0]), [false, true]);
+}
+
+#[test]
+fn a_further_transform_multiplies_from_the_left() {
+    let steps = [
+        by(2, &[1.0, 2.0]),
+        by(3, &[1.0, 0.0, 2.0, 0.0, 1.0, 1.0]),
+        Step::Remapped(vec![None, Some(0)]),
+    ];
+    let (hessian, _) = lent(1, 0.0, &[0], &steps, |blocks| {
+        let transforms = of_blocks::transforms(blocks);
+        let product = DMatrix::from_column_slice(3, 1, &[1.0, 2.0, 4.0]);
+        assert_eq!(transforms, [None, Some(product)]);
+        let ones = DMatrix::from_fn(3, 3, |_, _| 1.0);
+        blocks.add_hessian(0, 0, &ones);
+        blocks.add_hessian(1, 1, &ones);
+    });
+    assert_eq!(hessian, [49.0]);
 }
 
 #[test]

@@ -2,18 +2,18 @@
 
 use super::draw::{self, Temper};
 use super::moments::{numbers, of_numbers, vector};
+use super::refused;
+use super::target::Target;
 use super::tried::{drawn_state, for_a_group, Tried};
-use super::{maps, refused};
-use crate::calls::{self, Value};
+use crate::calls::{self, Call, Value};
 use crate::case::{After, Case, Cell};
 use crate::factors::lidar::action;
 use crate::factors::lidar::plane_moments::beside::{self, CentredNumbers};
 use crate::factors::lidar::plane_moments::{LidarPlaneMomentFactor, PointMoments};
-use crate::factors::{Factor, FactorError, NormalBlocks};
+use crate::factors::{Factor, FactorError};
 use apex_manifolds::Affine;
 use faer::mat::MatMut;
 use nalgebra::eigen::{self, Decomposition};
-use nalgebra::{DMatrix, DVector};
 use oracle::draws::{self, Wall};
 use oracle::generator::Generator;
 
@@ -36,9 +36,16 @@ fn of_group<G: Tried>(temper: Temper, generator: &mut Generator, cases: &mut Vec
     };
     let job = Built::drawn(built, temper, generator);
     job.fit(generator, cases);
+    let frames = job.states.len();
     for wanted in [true, false] {
-        job.accumulate(wanted, generator, cases);
+        let target = Target::drawn(wanted, G::DOF, frames, generator);
+        job.accumulate(&calls::FRAMES_ACCUMULATE, target, generator, cases);
         job.linearize(wanted, generator, cases);
+    }
+    for _ in 0..2 {
+        let target = Target::transformed(temper, G::DOF, frames, generator);
+        let call = &calls::FRAMES_ACCUMULATE_TRANSFORMED;
+        job.accumulate(call, target, generator, cases);
     }
     job.miscounted(generator, cases);
     refused::add(cases, generator);
@@ -351,16 +358,22 @@ impl<G: Tried> Built<G> {
         ));
     }
 
-    fn accumulate(&self, wanted: bool, generator: &mut Generator, cases: &mut Vec<Case>) {
+    fn accumulate(
+        &self,
+        call: &'static Call,
+        target: Target,
+        generator: &mut Generator,
+        cases: &mut Vec<Case>,
+    ) {
         let (actions, plane, asked) = self.fitted();
-        let target = Target::drawn(wanted, G::DOF, self.states.len(), generator);
         let mut before = self.first_parameters();
         before.push(Value::Numbers(vec![self.sigma]));
         before.push(Value::Numbers(actions));
         before.push(Value::Numbers(asked[0].decomposition.to_vec()));
         before.extend(target.parameters());
         before.push(Value::Numbers(draw::old(1, generator)));
-        let mut after = target.clone();
+        let label = target.label();
+        let mut after = target;
         let (cost, _) = self
             .worked(|| after.lend(|blocks| self.factor.accumulate_normal(&self.params(), blocks)));
         let mut written = vec![(
@@ -370,13 +383,8 @@ impl<G: Tried> Built<G> {
         if plane.is_some() {
             written.extend(after.written(G::DOF));
         }
-        let kind = self.kind(plane.is_some(), target.label());
-        cases.push(Case::accepted(
-            &calls::FRAMES_ACCUMULATE,
-            kind,
-            before,
-            written,
-        ));
+        let kind = self.kind(plane.is_some(), &label);
+        cases.push(Case::accepted(call, kind, before, written));
     }
 
     fn linearize(&self, wanted: bool, generator: &mut Generator, cases: &mut Vec<Case>) {
@@ -456,128 +464,4 @@ fn settled(place: usize, mut decomposition: Decomposition) -> Decomposition {
         }
     }
     decomposition
-}
-
-/// What a call accumulates into: Hessian, gradient and the offset of each block, or nothing of it.
-#[derive(Clone)]
-pub struct Target {
-    wanted: bool,
-    n: usize,
-    hessian: Vec<f64>,
-    gradient: Vec<f64>,
-    offsets: Vec<Option<usize>>,
-    frames: usize,
-}
-
-impl Target {
-    /// A target for some frames: the map may be shorter or longer than the list of frames.
-    pub fn drawn(wanted: bool, dof: usize, frames: usize, generator: &mut Generator) -> Target {
-        if !wanted {
-            return Target {
-                wanted,
-                n: 0,
-                hessian: Vec::new(),
-                gradient: Vec::new(),
-                offsets: Vec::new(),
-                frames,
-            };
-        }
-        let n = dof + generator.below(2 + dof as u64) as usize;
-        let words = (frames + generator.below(3) as usize).saturating_sub(1);
-        let offsets = (0..words)
-            .map(|_| {
-                (generator.below(5) != 0).then(|| generator.below((n - dof + 1) as u64) as usize)
-            })
-            .collect();
-        Target {
-            wanted,
-            n,
-            hessian: draw::content(n * n, generator),
-            gradient: draw::content(n, generator),
-            offsets,
-            frames,
-        }
-    }
-
-    /// Map, Hessian and gradient as they are handed in.
-    pub fn parameters(&self) -> [Value; 3] {
-        [
-            Value::Words(maps::words(&self.offsets)),
-            Value::Numbers(self.hessian.clone()),
-            Value::Numbers(self.gradient.clone()),
-        ]
-    }
-
-    /// Lends the original the blocks: those of a wrapping factor, remapped where some are dropped.
-    pub fn lend<T>(&mut self, work: impl FnOnce(Option<&mut NormalBlocks<'_>>) -> T) -> T {
-        if !self.wanted {
-            return work(None);
-        }
-        let mut hessian = DMatrix::from_column_slice(self.n, self.n, &self.hessian);
-        let mut gradient = DVector::from_column_slice(&self.gradient);
-        let all: Option<Vec<usize>> = self.offsets.iter().copied().collect();
-        let answer = match all {
-            Some(offsets) => work(Some(&mut NormalBlocks::new(
-                &mut hessian,
-                &mut gradient,
-                &offsets,
-            ))),
-            None => {
-                let places: Vec<usize> = (0..=self.n).collect();
-                let mut outer = NormalBlocks::new(&mut hessian, &mut gradient, &places);
-                work(Some(&mut outer.remapped(&self.offsets)))
-            }
-        };
-        self.hessian = hessian.as_slice().to_vec();
-        self.gradient = gradient.as_slice().to_vec();
-        answer
-    }
-
-    /// Hessian and gradient afterwards: the cells of a frame's segment as the original left them, the others kept.
-    pub fn written(&self, dof: usize) -> Vec<(&'static str, After)> {
-        let segments: Vec<usize> = self
-            .offsets
-            .iter()
-            .take(self.frames)
-            .flatten()
-            .copied()
-            .collect();
-        let within = |row: usize, from: usize| from <= row && row < from + dof;
-        let cell = |written: bool, number: f64| {
-            if written {
-                Cell::Is(number)
-            } else {
-                Cell::Kept
-            }
-        };
-        let hessian = (0..self.hessian.len()).map(|place| {
-            let (row, column) = (place % self.n, place / self.n);
-            let written = segments
-                .iter()
-                .any(|&from| within(row, from) && within(column, from));
-            cell(written, self.hessian[place])
-        });
-        let gradient = (0..self.n).map(|row| {
-            cell(
-                segments.iter().any(|&from| within(row, from)),
-                self.gradient[row],
-            )
-        });
-        vec![
-            ("hessian", After::Numbers(hessian.collect())),
-            ("gradient", After::Numbers(gradient.collect())),
-        ]
-    }
-
-    /// What kind of target it is.
-    pub fn label(&self) -> &'static str {
-        let known = self.offsets.len().min(self.frames);
-        match &self.offsets[..known] {
-            _ if !self.wanted => "unwanted",
-            [] => "no map",
-            offsets if offsets.iter().all(Option::is_none) => "unmapped",
-            offsets if known < self.frames || offsets.iter().any(Option::is_none) => "some mapped",
-            _ => "mapped",
-        }
-    }
 }

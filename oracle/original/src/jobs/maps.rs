@@ -32,13 +32,13 @@ fn length(generator: &mut Generator) -> u64 {
 }
 
 /// A list of places in a map, some past its end, some of none.
-fn list(map: u64, generator: &mut Generator) -> Vec<Option<usize>> {
-    let length = length(generator);
+pub fn list(length: u64, map: u64, generator: &mut Generator) -> Vec<Option<usize>> {
     (0..length)
-        .map(|_| match generator.below(8) {
+        .map(|_| match generator.below(12) {
             0 => None,
             1 => Some(generator.below(1 << 30) as usize),
-            _ => Some(generator.below(map + 2) as usize),
+            2 => Some((map + generator.below(2)) as usize),
+            _ => Some(generator.below(map.max(1)) as usize),
         })
         .collect()
 }
@@ -55,11 +55,11 @@ pub fn run(generator: &mut Generator, cases: &mut Vec<Case>) {
     let mut gradient = DVector::from_fn(0, |_, _| 0.0);
     let mut blocks = NormalBlocks::new(&mut hessian, &mut gradient, &offsets);
     let of_blocks = beside::offsets(&blocks);
-    let first = list(of_blocks.len() as u64, generator);
+    let first = list(length(generator), of_blocks.len() as u64, generator);
     let mut remapped = blocks.remapped(&first);
     let once = beside::offsets(&remapped);
     cases.push(case("once", &of_blocks, &first, &once, generator));
-    let second = list(once.len() as u64, generator);
+    let second = list(length(generator), once.len() as u64, generator);
     let twice = beside::offsets(&remapped.remapped(&second));
     cases.push(case("twice", &once, &second, &twice, generator));
     refused::add(cases, generator);

@@ -1,11 +1,11 @@
 //! Matches on one pose: linearizing and accumulating.
 
 use super::draw::{self, Temper};
-use super::frames::Target;
 use super::moments::vector;
 use super::refused;
+use super::target::Target;
 use super::tried::{drawn_state, for_a_group, Tried};
-use crate::calls::{self, Value};
+use crate::calls::{self, Call, Value};
 use crate::case::{After, Case};
 use crate::factors::lidar::action;
 use crate::factors::lidar::map_planes::{LidarMapPlanesFactor, PlaneMatch};
@@ -79,9 +79,9 @@ fn count(generator: &mut Generator) -> usize {
     let count = match generator.below(400) {
         0 => 1 + generator.below(5000),
         // About the ends of groups of 512.
-        1..4 => generator.pick(&[511, 512, 513, 515, 1024, 1025]),
-        4..24 => generator.below(60),
-        24..28 => 0,
+        1..16 => generator.pick(&[511, 512, 513, 515, 1024, 1025]),
+        16..36 => generator.below(60),
+        36..40 => 0,
         _ => 1 + generator.below(4),
     };
     count as usize
@@ -119,7 +119,13 @@ fn of_group<G: Tried>(generator: &mut Generator, cases: &mut Vec<Case>) {
     };
     for wanted in [true, false] {
         job.linearize(wanted, generator, cases);
-        job.accumulate(wanted, generator, cases);
+        let target = Target::drawn(wanted, G::DOF, 1, generator);
+        job.accumulate(&calls::MATCHES_ACCUMULATE, target, generator, cases);
+    }
+    for _ in 0..2 {
+        let target = Target::transformed(temper, G::DOF, 1, generator);
+        let call = &calls::MATCHES_ACCUMULATE_TRANSFORMED;
+        job.accumulate(call, target, generator, cases);
     }
     if let (Ok(factor), 0) = (&job.factor, generator.below(8)) {
         let count = 2 * generator.below(2) as usize;
@@ -173,23 +179,28 @@ impl<G: Tried> Job<G> {
         });
     }
 
-    fn accumulate(&self, wanted: bool, generator: &mut Generator, cases: &mut Vec<Case>) {
-        let target = Target::drawn(wanted, G::DOF, 1, generator);
+    fn accumulate(
+        &self,
+        call: &'static Call,
+        target: Target,
+        generator: &mut Generator,
+        cases: &mut Vec<Case>,
+    ) {
         let mut before = self.first.clone();
         before.extend(target.parameters());
         before.push(Value::Numbers(draw::old(1, generator)));
-        let kind = self.kind(target.label());
+        let kind = self.kind(&target.label());
         cases.push(match &self.factor {
-            Err(error) => Case::refused(&calls::MATCHES_ACCUMULATE, kind, before, number(error)),
+            Err(error) => Case::refused(call, kind, before, number(error)),
             Ok(factor) => {
-                let mut after = target.clone();
+                let mut after = target;
                 let cost = after.lend(|blocks| factor.accumulate_normal(&[&self.state], blocks));
                 let mut written = after.written(G::DOF);
                 written.push((
                     "cost",
                     After::numbers(&[cost.expect("the factor accumulates")]),
                 ));
-                Case::accepted(&calls::MATCHES_ACCUMULATE, kind, before, written)
+                Case::accepted(call, kind, before, written)
             }
         });
     }

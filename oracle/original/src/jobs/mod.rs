@@ -10,8 +10,11 @@ mod moments;
 mod one_match;
 mod planes;
 mod refused;
+mod target;
+mod transforms;
 mod tried;
 
+pub use transforms::{stepped, Step};
 pub use tried::few_states;
 
 use crate::case::Case;
@@ -54,5 +57,9 @@ pub static JOBS: &[Job] = &[
     Job {
         name: "bundles",
         run: bundles::run,
+    },
+    Job {
+        name: "transforms",
+        run: transforms::run,
     },
 ];

@@ -17,40 +17,72 @@ struct Spoilt {
     reason: u32,
 }
 
-/// For every third job, adds an accepted call of the list with something spoilt.
-pub fn add(cases: &mut Vec<Case>, generator: &mut Generator) {
-    let Some(last) = cases.last() else { return };
-    if generator.below(3) != 0 {
-        return;
+/// Where a reason stands among the tests, for which its number does not always do.
+fn rank(reason: u32) -> u32 {
+    match reason {
+        // Directly after 9.
+        14 => 19,
+        _ => 2 * reason,
     }
-    // Among the last few calls, which are this job's.
-    let from = cases.len() - 1 - generator.below(6.min(cases.len() as u64)) as usize;
-    let case = if cases[from].answer == 0 {
-        &cases[from]
-    } else {
-        last
-    };
-    if case.answer != 0 {
-        return;
+}
+
+/// For every third job, adds an accepted call of the list with something spoilt, and for every other job with transforms such
+/// a call with a bad shape or a segment past the end.
+pub fn add(cases: &mut Vec<Case>, generator: &mut Generator) {
+    let any = any_spoilt(cases, generator);
+    let shape = shape_spoilt(cases, generator);
+    cases.extend(any.into_iter().chain(shape));
+}
+
+fn any_spoilt(cases: &[Case], generator: &mut Generator) -> Option<Case> {
+    let accepted: Vec<&Case> = cases.iter().filter(|case| case.answer == 0).collect();
+    if accepted.is_empty() || generator.below(3) != 0 {
+        return None;
+    }
+    let case = generator.pick(&accepted);
+    let mut spoils = all(case, generator);
+    let first = drawn(&mut spoils, generator)?;
+    Some(spoilt(case, first, spoils, generator))
+}
+
+fn shape_spoilt(cases: &[Case], generator: &mut Generator) -> Option<Case> {
+    let mut calls = cases.iter().rev();
+    let case = calls.find(|case| case.answer == 0 && has(case, "shapes"))?;
+    if generator.below(2) != 0 {
+        return None;
     }
     let mut spoils = all(case, generator);
-    if spoils.is_empty() {
-        return;
+    let mut places: Vec<usize> = (0..spoils.len()).collect();
+    places.retain(|&place| matches!(spoils[place].reason, 10 | 14));
+    if places.is_empty() {
+        return None;
     }
-    let first = spoils.swap_remove(generator.below(spoils.len() as u64) as usize);
+    let first = spoils.swap_remove(generator.pick(&places));
+    Some(spoilt(case, first, spoils, generator))
+}
+
+/// One of a list, taken out of it.
+fn drawn(spoils: &mut Vec<Spoilt>, generator: &mut Generator) -> Option<Spoilt> {
+    let count = spoils.len() as u64;
+    (count > 0).then(|| spoils.swap_remove(generator.below(count) as usize))
+}
+
+/// A call with something spoilt, and in every third case something of the others too.
+fn spoilt(case: &Case, first: Spoilt, mut others: Vec<Spoilt>, generator: &mut Generator) -> Case {
     // Two lengths that are both one more may fit together again.
-    spoils.retain(|other| other.place != first.place && other.reason != first.reason);
+    others.retain(|other| other.place != first.place && other.reason != first.reason);
     let mut before = case.before.clone();
     let mut reason = first.reason;
     let mut kind = format!("refused by {}", case.call.parameters[first.place]);
-    if generator.below(3) == 0 && !spoils.is_empty() {
-        let second = spoils.swap_remove(generator.below(spoils.len() as u64) as usize);
-        reason = reason.min(second.reason);
-        kind += &format!(" and {}", case.call.parameters[second.place]);
-        before[second.place] = second.value;
+    if generator.below(3) == 0 {
+        if let Some(second) = drawn(&mut others, generator) {
+            reason = std::cmp::min_by_key(reason, second.reason, |reason| rank(*reason));
+            kind += &format!(" and {}", case.call.parameters[second.place]);
+            before[second.place] = second.value;
+        }
     }
     before[first.place] = first.value;
-    cases.push(Case::refused(case.call, kind, before, reason));
+    Case::refused(case.call, kind, before, reason)
 }
 
 /// One more entry.
@@ -103,7 +135,7 @@ fn all(case: &Case, generator: &mut Generator) -> Vec<Spoilt> {
             }
             // Empty means not wanted, or no map.
             ("jacobian" | "row", _) if value.is_empty() => {}
-            ("map" | "counts", _) => {}
+            ("map" | "counts" | "shapes", _) => {}
             (name, _) => {
                 spoil(longer(value), 3);
                 if matches!(name, "frames" | "matches" | "a_match") {
@@ -114,6 +146,7 @@ fn all(case: &Case, generator: &mut Generator) -> Vec<Spoilt> {
     }
     spoils.extend(words(case, generator));
     spoils.extend(counts(case, generator));
+    spoils.extend(transforms(case, generator));
     spoils
 }
 
@@ -139,13 +172,14 @@ fn words(case: &Case, generator: &mut Generator) -> Vec<Spoilt> {
             value: Value::Words(bad),
             reason: 9,
         });
-        if case.call.parameters.contains(&"gradient") {
-            let [dof, n] = ["dof", "gradient"].map(|name| &case.before[place_of(case, name)]);
-            let (Value::Words(dof), n) = (dof, n.len() as u32) else {
-                continue;
+        if has(case, "gradient") {
+            let n = case.before[place_of(case, "gradient")].len() as u32;
+            let width = match *words_of(case, "shapes") {
+                [rows, columns, ..] if [rows, columns] != NO_TRANSFORM => columns,
+                _ => words_of(case, "dof")[0],
             };
             let mut past = words.clone();
-            past[0] = (n + 1).saturating_sub(dof[0]) + generator.below(3) as u32;
+            past[0] = (n + 1).saturating_sub(width) + generator.below(3) as u32;
             spoils.push(Spoilt {
                 place,
                 value: Value::Words(past),
@@ -185,6 +219,93 @@ fn counts(case: &Case, generator: &mut Generator) -> Vec<Spoilt> {
         reason,
     };
     spoils.into_iter().map(spoilt).collect()
+}
+
+/// Rows and columns where there is no transform.
+const NO_TRANSFORM: [u32; 2] = [u32::MAX; 2];
+
+/// What can be spoilt of a map with transforms beside it.
+fn transforms(case: &Case, generator: &mut Generator) -> Vec<Spoilt> {
+    if !has(case, "shapes") {
+        return Vec::new();
+    }
+    let multiplies = has(case, "further");
+    let [map, shapes] = ["map", "shapes"].map(|name| words_of(case, name));
+    let mut spoils = Vec::new();
+    let mut spoil = |name: &str, value: Value, reason: u32| {
+        spoils.push(Spoilt {
+            place: place_of(case, name),
+            value,
+            reason,
+        });
+    };
+    spoil("shapes", longer(&Value::Words(shapes.to_vec())), 3);
+    if multiplies || !shapes.is_empty() {
+        spoil("map", longer(&Value::Words(map.to_vec())), 3);
+    }
+    if !shapes.is_empty() {
+        spoil("shapes", Value::Words(Vec::new()), 3);
+        spoil("transforms", Value::Numbers(Vec::new()), 3);
+        let at = 2 * generator.below(map.len() as u64) as usize;
+        let mut bad = shapes.to_vec();
+        bad[at..at + 2].copy_from_slice(&bad_shape(case, multiplies, generator));
+        spoil("shapes", Value::Words(bad), 14);
+    }
+    if multiplies {
+        let bad = bad_further(case, generator);
+        spoil("further_shape", Value::Words(bad.to_vec()), 14);
+    }
+    spoils
+}
+
+/// Rows and columns that a transform of a map's word must not have: multiplying looks at its columns alone.
+fn bad_shape(case: &Case, multiplies: bool, generator: &mut Generator) -> [u32; 2] {
+    let dof = words_of(case, "dof")[0];
+    let columns = generator.below(10) as u32;
+    let wide = [[dof, 10], [dof, 1 << 31], [dof, u32::MAX]];
+    let other_rows = [
+        [dof + 1, columns],
+        [dof + 9, columns],
+        [u32::MAX, columns],
+        [dof.wrapping_sub(1), columns],
+    ];
+    match generator.below(2) {
+        0 if !multiplies => generator.pick(&other_rows),
+        _ => generator.pick(&wide),
+    }
+}
+
+/// Rows and columns that a further transform must not have.
+fn bad_further(case: &Case, generator: &mut Generator) -> [u32; 2] {
+    let [dof, place] = ["dof", "place"].map(|name| words_of(case, name)[0]);
+    let columns = words_of(case, "further_shape")[1];
+    let bad = [
+        NO_TRANSFORM,
+        [dof + 1, columns],
+        [dof.wrapping_sub(1), columns],
+        [dof, 10],
+        [dof, u32::MAX],
+    ];
+    let old = words_of(case, "shapes").chunks(2).nth(place as usize);
+    match generator.below(2) {
+        // Not as many columns as the one that it multiplies has rows.
+        0 if old.is_some_and(|old| old != NO_TRANSFORM) => [dof, (columns + 1) % 10],
+        _ => generator.pick(&bad),
+    }
+}
+
+/// Whether a call has a parameter.
+fn has(case: &Case, name: &str) -> bool {
+    case.call.parameters.contains(&name)
+}
+
+/// The words of a parameter; none where the call has no such one.
+fn words_of<'a>(case: &'a Case, name: &str) -> &'a [u32] {
+    let mut parameters = case.call.parameters.iter().zip(&case.before);
+    match parameters.find(|(other, _)| **other == name) {
+        Some((_, Value::Words(words))) => words,
+        _ => &[],
+    }
 }
 
 /// A variable that a factor is registered with.

@@ -74,11 +74,7 @@ impl DMatrix<f64> {
 
     /// The part of a shape from a row and a column on, to be added to.
     pub fn view_mut(&mut self, from: (usize, usize), shape: (usize, usize)) -> ViewMut<'_, Dyn> {
-        ViewMut {
-            matrix: self,
-            from,
-            shape,
-        }
+        ViewMut::of(self, from, shape)
     }
 }
 
@@ -95,11 +91,7 @@ impl DVector<f64> {
 
     /// Rows, to be added to.
     pub fn rows_mut(&mut self, row: usize, rows: usize) -> ViewMut<'_, U1> {
-        ViewMut {
-            matrix: self,
-            from: (row, 0),
-            shape: (rows, 1),
-        }
+        ViewMut::of(self, (row, 0), (rows, 1))
     }
 }
 
@@ -123,6 +115,26 @@ pub struct ViewMut<'a, C> {
     shape: (usize, usize),
 }
 
+impl<'a, C: Dim> ViewMut<'a, C> {
+    /// The part; panics where it reaches past the end, also where it has no entries.
+    fn of(
+        matrix: &'a mut Matrix<f64, Dyn, C, VecStorage<f64>>,
+        from: (usize, usize),
+        shape: (usize, usize),
+    ) -> Self {
+        let (rows, columns) = matrix.shape();
+        assert!(
+            from.0 + shape.0 <= rows && from.1 + shape.1 <= columns,
+            "Matrix slicing out of bounds."
+        );
+        ViewMut {
+            matrix,
+            from,
+            shape,
+        }
+    }
+}
+
 impl<C: Dim> AddAssign<Matrix<f64, Dyn, C, VecStorage<f64>>> for ViewMut<'_, C> {
     fn add_assign(&mut self, other: Matrix<f64, Dyn, C, VecStorage<f64>>) {
         assert_eq!(self.shape, other.shape());
@@ -134,11 +146,12 @@ impl<C: Dim> AddAssign<Matrix<f64, Dyn, C, VecStorage<f64>>> for ViewMut<'_, C> 
     }
 }
 
-// The products below serve the transforms of `NormalBlocks` only, which the library leaves out.
+// The products below serve the transforms of `NormalBlocks` only. Each entry is a sum of products in rising index.
 impl<C: Dim> Mul<&Matrix<f64, Dyn, C, VecStorage<f64>>> for &DMatrix<f64> {
     type Output = Matrix<f64, Dyn, C, VecStorage<f64>>;
 
     fn mul(self, other: &Matrix<f64, Dyn, C, VecStorage<f64>>) -> Self::Output {
+        assert_eq!(self.ncols(), other.nrows(), "dimensions mismatch");
         Matrix::of_entries(self.nrows(), other.ncols(), |row, column| {
             sum_of_products(self.ncols(), |k| self[(row, k)] * other[(k, column)])
         })

@@ -1,8 +1,8 @@
 //! Stand-in for nalgebra: just the types and operators that the original's text uses.
 //!
-//! The rule of every operator is document 01's: sums of products run in rising index and start from the first product, each
-//! product and each sum is rounded once, and a scalar is applied to each entry. That nalgebra does the same is the
-//! document's word, not shown here.
+//! The rule of every operator is that of documents 01 and 02: sums of products run in rising index and start from the first
+//! product, a sum of no products is +0, each product and each sum is rounded once, and a scalar is applied to each entry.
+//! That nalgebra does the same is the documents' word, not shown here.
 //!
 //! What nalgebra makes a view of is copied here where it is only read: the numbers read are the same.
 
