@@ -6,7 +6,7 @@
 //! NaN. So whatever the model leaves must keep its bits, the gaps between the slices included.
 
 use crate::generator::Generator;
-use crate::model::WORKED_OUT_NAN;
+use crate::model::{written, WORKED_OUT_NAN};
 use crate::report::Report;
 use std::ops::Range;
 
@@ -196,6 +196,17 @@ fn cut<'a, T, const K: usize>(
         rest = after;
         slice
     })
+}
+
+/// Makes the NaNs that an accepted call of the library has left in its outputs those that the model writes, so that the call
+/// can be the model of another in which one NaN counts as another. Hands its answer on.
+pub fn with_the_models_nans<const K: usize>(answer: u32, outputs: [&mut [f64]; K]) -> u32 {
+    if answer == 0 {
+        for number in outputs.into_iter().flatten() {
+            *number = written(*number);
+        }
+    }
+    answer
 }
 
 /// Something that a call is refused for, made in a case that would be accepted.

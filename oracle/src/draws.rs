@@ -95,6 +95,12 @@ pub fn old(length: usize, generator: &mut Generator) -> Vec<f64> {
         .collect()
 }
 
+/// The same of an output of words.
+pub fn old_words(length: usize, generator: &mut Generator) -> Vec<u32> {
+    let numbers = old(length, generator);
+    numbers.iter().map(|x| x.to_bits() as u32).collect()
+}
+
 /// A rotation into the site and a shift.
 pub struct Pose {
     /// The rotation.

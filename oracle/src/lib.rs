@@ -2,6 +2,7 @@
 
 #![warn(missing_docs)]
 
+pub mod beside;
 pub mod builds;
 pub mod bundled;
 pub mod called;

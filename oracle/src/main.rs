@@ -2,9 +2,10 @@
 
 use oracle::generator::Generator;
 use oracle::groups::{
-    bundle_fit, bundle_linearize, frames_accumulate, frames_build, frames_build_strict, frames_fit,
-    frames_linearize, lists, match_linearize, matches_accumulate, matches_linearize, moments,
-    moments_plane, number, order, plane_new, remap, root_steps, scatter, sigma, sqrt,
+    bundle_fit, bundle_linearize, frames_accumulate, frames_accumulate_transformed, frames_build,
+    frames_build_strict, frames_fit, frames_linearize, lists, match_linearize, matches_accumulate,
+    matches_accumulate_transformed, matches_linearize, moments, moments_plane, number, order,
+    plane_new, remap, root_steps, scatter, sigma, sqrt, transform,
 };
 use oracle::report::Report;
 use std::collections::BTreeMap;
@@ -71,6 +72,11 @@ const GROUPS: &[Group] = &[
         run: remap::run,
     },
     Group {
+        name: "transform",
+        about: "a map's transforms multiplied by a further one against a model",
+        run: transform::run,
+    },
+    Group {
         name: "frames_build",
         about: "building a frame factor against a model",
         run: frames_build::run,
@@ -91,6 +97,11 @@ const GROUPS: &[Group] = &[
         run: frames_accumulate::run,
     },
     Group {
+        name: "frames_accumulate_transformed",
+        about: "normal equations of frames with transforms against a model and frames_accumulate",
+        run: frames_accumulate_transformed::run,
+    },
+    Group {
         name: "frames_linearize",
         about: "residuals and derivatives of frames against a model",
         run: frames_linearize::run,
@@ -109,6 +120,11 @@ const GROUPS: &[Group] = &[
         name: "matches_accumulate",
         about: "normal equations of matches against a model",
         run: matches_accumulate::run,
+    },
+    Group {
+        name: "matches_accumulate_transformed",
+        about: "normal equations of matches with transforms against a model and matches_accumulate",
+        run: matches_accumulate_transformed::run,
     },
     Group {
         name: "matches_linearize",
@@ -232,7 +248,7 @@ fn usage() -> String {
          Exit status: 0 no mismatch, 1 a mismatch, 2 bad usage.\n\ngroups:"
     );
     for group in GROUPS {
-        text.push_str(&format!("\n  {:20} {}", group.name, group.about));
+        text.push_str(&format!("\n  {:30} {}", group.name, group.about));
     }
     text
 }

@@ -49,7 +49,7 @@ impl Report {
     /// Prints the group's line.
     pub fn print(&self) {
         println!(
-            "{:20} {:>10} cases, {} mismatches",
+            "{:30} {:>10} cases, {} mismatches",
             self.group, self.cases, self.mismatches
         );
     }

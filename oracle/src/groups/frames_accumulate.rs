@@ -4,7 +4,8 @@ use crate::called::{every_pair, Call, Comparison, Fault, Lent};
 use crate::draws::{old, within};
 use crate::generator::Generator;
 use crate::lent::number;
-use crate::model::{frames as model, LENGTH, SIGMA};
+use crate::model::frames::{self as model, Accumulate};
+use crate::model::{LENGTH, SIGMA};
 use crate::report::Report;
 use crate::scenes::{
     bad_sigma, fit_decomposition, some_frames, some_sigma, turning_eigenvalues, Scene,
@@ -44,6 +45,20 @@ impl Case {
         }
     }
 
+    /// The same as the model takes it.
+    pub(crate) fn inputs(&self) -> Accumulate<'_> {
+        Accumulate {
+            dof: self.scene.dof,
+            frames: &self.scene.frames,
+            fixed: &self.scene.fixed,
+            sigma: self.sigma,
+            actions: &self.scene.actions,
+            decomposition: &self.decomposition,
+            map: &self.target.map,
+            transforms: self.target.beside.read(),
+        }
+    }
+
     fn lent(self, generator: &mut Generator) -> Lent<8, 2> {
         Lent {
             numbers: [
@@ -61,31 +76,38 @@ impl Case {
     }
 }
 
-/// Compares the library.
-pub fn run(generator: &mut Generator, count: u64, report: &mut Report) {
-    let call = |numbers: [&mut [f64]; 8], [dof, map]: [&mut [u32]; 2]| {
-        let [frames, fixed, sigma, actions, decomposition, hessian, gradient, cost] = numbers;
-        number(library::frames_accumulate(
-            dof[0],
-            frames,
-            fixed,
-            sigma[0],
-            actions,
-            decomposition,
-            map,
-            hessian,
-            gradient,
-            &mut cost[0],
-        ))
-    };
-    compare(&call, generator, count, report);
+/// The library's call.
+pub(crate) fn library_call(numbers: [&mut [f64]; 8], [dof, map]: [&mut [u32]; 2]) -> u32 {
+    let [frames, fixed, sigma, actions, decomposition, hessian, gradient, cost] = numbers;
+    number(library::frames_accumulate(
+        dof[0],
+        frames,
+        fixed,
+        sigma[0],
+        actions,
+        decomposition,
+        map,
+        hessian,
+        gradient,
+        &mut cost[0],
+    ))
 }
 
-fn compare(call: &Call<'_, 8, 2>, generator: &mut Generator, count: u64, report: &mut Report) {
-    let model = model::accumulate_call(
+/// The model's.
+pub(crate) fn model_call(numbers: [&mut [f64]; 8], words: [&mut [u32]; 2]) -> u32 {
+    let call = model::accumulate_call(
         |inputs, target| inputs.refusal(target),
         |inputs| inputs.work(),
     );
+    call(numbers, words)
+}
+
+/// Compares the library.
+pub fn run(generator: &mut Generator, count: u64, report: &mut Report) {
+    compare(&library_call, generator, count, report);
+}
+
+fn compare(call: &Call<'_, 8, 2>, generator: &mut Generator, count: u64, report: &mut Report) {
     let mut comparison = Comparison::new(
         "frames_accumulate",
         [
@@ -100,7 +122,7 @@ fn compare(call: &Call<'_, 8, 2>, generator: &mut Generator, count: u64, report:
         ],
         ["dof", "map"],
         call,
-        &model,
+        &model_call,
     );
     for frames in (1..20).chain([MAX_FRAMES - 1, MAX_FRAMES]) {
         for _ in 0..10 {
@@ -150,7 +172,7 @@ fn accepted(generator: &mut Generator) -> Case {
 }
 
 /// What a call can be refused for.
-fn faults() -> Vec<Fault<Case>> {
+pub(crate) fn faults() -> Vec<Fault<Case>> {
     let of_scene = Scene::faults().into_iter();
     let of_target = Destination::faults().into_iter();
     let mut faults: Vec<_> = of_scene
@@ -177,10 +199,10 @@ fn faults() -> Vec<Fault<Case>> {
 mod tests {
     use super::*;
     use crate::called::{answer, check_faults};
-    use crate::model::blocks::{segment, Cell, Target, Work};
+    use crate::model::blocks::{Block, Cell, Target, Work};
     use crate::model::moments::Decomposition;
     use crate::model::{dot, ACTIONS, SEGMENT};
-    use model::{Accumulate, FrameTerms, Plane, Sets};
+    use model::{FrameTerms, Plane, Sets};
 
     fn mismatches(call: &Call<'_, 8, 2>) -> u64 {
         let mut report = Report::new("frames_accumulate");
@@ -235,10 +257,10 @@ mod tests {
                 let weight = (parts.weight)(inputs.sigma);
                 let sets = inputs.sets();
                 for k in 0..sets.frames.len() {
-                    let FrameTerms { cost, h, g } = (parts.frame)(&sets, k, &plane, weight);
+                    let FrameTerms { cost, block } = (parts.frame)(&sets, k, &plane, weight);
                     work.cost += cost;
-                    if let Some(segment) = segment(inputs.map, k, inputs.dof) {
-                        work.add(segment, |i, j| h[i][j], |i| g[i]);
+                    if let Some(segment) = inputs.blocks().segment(k) {
+                        work.add(segment, &block);
                     }
                 }
                 work.cost += (parts.fixed)(&sets, &plane, weight);
@@ -255,12 +277,8 @@ mod tests {
 
     #[test]
     fn faults_are_refused_by_their_numbers() {
-        let call = model::accumulate_call(
-            |inputs, target| inputs.refusal(target),
-            |inputs| inputs.work(),
-        );
         check_faults(&faults(), accepted, |case| {
-            answer(&call, case.lent(&mut Generator::new(1)))
+            answer(&model_call, case.lent(&mut Generator::new(1)))
         });
     }
 
@@ -368,7 +386,7 @@ mod tests {
                     let mut terms = (RIGHT.frame)(sets, k, plane, weight);
                     for i in 0..9 {
                         for j in 0..i {
-                            terms.h[i][j] = terms.h[j][i];
+                            terms.block.h[i][j] = terms.block.h[j][i];
                         }
                     }
                     terms
@@ -381,11 +399,10 @@ mod tests {
                 frame: |sets, k, plane, weight| {
                     let unweighted = (RIGHT.frame)(sets, k, plane, 1.0);
                     let root = weight.sqrt();
-                    let right = (RIGHT.frame)(sets, k, plane, weight);
-                    FrameTerms {
-                        g: unweighted.g.map(|g| (g * root) * root),
-                        ..right
-                    }
+                    let FrameTerms { cost, block } = (RIGHT.frame)(sets, k, plane, weight);
+                    let g = unweighted.block.g.map(|g| (g * root) * root);
+                    let block = Block { g, ..block };
+                    FrameTerms { cost, block }
                 },
                 ..RIGHT
             }) > 0
@@ -402,7 +419,7 @@ mod tests {
                     let weight = 1.0 / (inputs.sigma * inputs.sigma);
                     work.cost = 0.0;
                     for k in 0..sets.frames.len() {
-                        if segment(inputs.map, k, inputs.dof).is_some() {
+                        if inputs.blocks().segment(k).is_some() {
                             work.cost += (RIGHT.frame)(&sets, k, &plane, weight).cost;
                         }
                     }
@@ -464,7 +481,7 @@ mod tests {
         // A word that no frame has counts.
         assert!(
             with_refusal(|inputs, target| match inputs.refusal(target) {
-                0 if target.exceeded(inputs.map, inputs.map.len(), inputs.dof) => SEGMENT,
+                0 if target.exceeded(&inputs.blocks(), inputs.map.len()) => SEGMENT,
                 answer => answer,
             }) > 0
         );

@@ -5,16 +5,16 @@ use crate::draws::old;
 use crate::generator::Generator;
 use crate::lent::number;
 use crate::matched::{some_matches, two_bad_matches, Matched, TURNING};
-use crate::model::matches as model;
+use crate::model::matches::{self as model, Matches};
 use crate::model::MAX_DOF;
 use crate::report::Report;
 use crate::targets::{ends_of_segments, Destination};
 use maghnelt::{slices as library, MAX_ORDER, UNMAPPED};
 
 /// What a call takes.
-struct Case {
-    matched: Matched,
-    target: Destination,
+pub(crate) struct Case {
+    pub(crate) matched: Matched,
+    pub(crate) target: Destination,
 }
 
 impl Case {
@@ -22,6 +22,17 @@ impl Case {
         let matched = Matched::of(matches, generator);
         let target = Destination::random(matched.dof as usize, 1, generator);
         Case { matched, target }
+    }
+
+    /// The same as the model takes it.
+    pub(crate) fn inputs(&self) -> Matches<'_> {
+        Matches {
+            dof: self.matched.dof,
+            matches: &self.matched.matches,
+            action: &self.matched.action,
+            map: &self.target.map,
+            transforms: self.target.beside.read(),
+        }
     }
 
     fn lent(self, generator: &mut Generator) -> Lent<5, 2> {
@@ -39,21 +50,32 @@ impl Case {
     }
 }
 
+/// The library's call.
+pub(crate) fn library_call(numbers: [&mut [f64]; 5], [dof, map]: [&mut [u32]; 2]) -> u32 {
+    let [matches, action, hessian, gradient, cost] = numbers;
+    number(library::matches_accumulate(
+        dof[0],
+        matches,
+        action,
+        map,
+        hessian,
+        gradient,
+        &mut cost[0],
+    ))
+}
+
+/// The model's.
+pub(crate) fn model_call(numbers: [&mut [f64]; 5], words: [&mut [u32]; 2]) -> u32 {
+    let call = model::accumulate_call(
+        |inputs, target| inputs.accumulate_refusal(target),
+        |inputs| inputs.work(),
+    );
+    call(numbers, words)
+}
+
 /// Compares the library.
 pub fn run(generator: &mut Generator, count: u64, report: &mut Report) {
-    let call = |numbers: [&mut [f64]; 5], [dof, map]: [&mut [u32]; 2]| {
-        let [matches, action, hessian, gradient, cost] = numbers;
-        number(library::matches_accumulate(
-            dof[0],
-            matches,
-            action,
-            map,
-            hessian,
-            gradient,
-            &mut cost[0],
-        ))
-    };
-    compare(&call, &TURNING, generator, count, report);
+    compare(&library_call, &TURNING, generator, count, report);
 }
 
 fn compare(
@@ -63,16 +85,12 @@ fn compare(
     count: u64,
     report: &mut Report,
 ) {
-    let model = model::accumulate_call(
-        |inputs, target| inputs.accumulate_refusal(target),
-        |inputs| inputs.work(),
-    );
     let mut comparison = Comparison::new(
         "matches_accumulate",
         ["matches", "action", "hessian", "gradient", "cost"],
         ["dof", "map"],
         call,
-        &model,
+        &model_call,
     );
     for &matches in turning {
         for dof in 0..=MAX_DOF {
@@ -113,7 +131,7 @@ fn accepted(generator: &mut Generator) -> Case {
 }
 
 /// What a call can be refused for.
-fn faults() -> Vec<Fault<Case>> {
+pub(crate) fn faults() -> Vec<Fault<Case>> {
     let of_matches = Matched::faults().into_iter();
     let of_target = Destination::faults().into_iter();
     of_matches
@@ -126,9 +144,8 @@ fn faults() -> Vec<Fault<Case>> {
 mod tests {
     use super::*;
     use crate::called::{answer, check_faults};
-    use crate::model::blocks::{Cell, Target, Work};
+    use crate::model::blocks::{added, Cell, Target, Work};
     use crate::model::{sum_from_zero, ACTIONS, NOT_FINITE, SEGMENT, SIGMA};
-    use model::Matches;
 
     fn mismatches(call: &Call<'_, 5, 2>) -> u64 {
         let mut report = Report::new("matches_accumulate");
@@ -155,20 +172,16 @@ mod tests {
 
     #[test]
     fn faults_are_refused_by_their_numbers() {
-        let call = model::accumulate_call(
-            |inputs, target| inputs.accumulate_refusal(target),
-            |inputs| inputs.work(),
-        );
         check_faults(&faults(), accepted, |case| {
-            answer(&call, case.lent(&mut Generator::new(1)))
+            answer(&model_call, case.lent(&mut Generator::new(1)))
         });
     }
 
     #[test]
     fn other_groups_are_found() {
-        assert!(with_work(|inputs| inputs.work_by_groups(usize::MAX)) > 0);
-        assert!(with_work(|inputs| inputs.work_by_groups(256)) > 0);
-        assert!(with_work(|inputs| inputs.work_by_groups(511)) > 0);
+        assert!(with_work(|inputs| inputs.work_by(usize::MAX, added)) > 0);
+        assert!(with_work(|inputs| inputs.work_by(256, added)) > 0);
+        assert!(with_work(|inputs| inputs.work_by(511, added)) > 0);
         // The second group skipped.
         assert!(
             with_work(|inputs| {
@@ -238,16 +251,10 @@ mod tests {
     #[test]
     fn zeros_that_are_added_where_nothing_is_mapped_are_found() {
         // Only to be seen by a -0, which would become +0.
-        let call = model::accumulate_call(
-            |inputs, target| inputs.accumulate_refusal(target),
-            |inputs| inputs.work(),
-        );
         assert!(
             mismatches(&|[matches, action, hessian, gradient, cost], [dof, map]| {
-                let answer = call(
-                    [matches, action, &mut *hessian, &mut *gradient, cost],
-                    [dof, map],
-                );
+                let numbers = [matches, action, &mut *hessian, &mut *gradient, cost];
+                let answer = model_call(numbers, [dof, map]);
                 if answer == 0 {
                     for cell in hessian {
                         *cell += 0.0;

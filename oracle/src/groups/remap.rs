@@ -1,7 +1,7 @@
 //! Maps read through index lists, against the model.
 
 use crate::called::{every_pair, Call, Comparison, Fault, Lent};
-use crate::draws;
+use crate::draws::old_words;
 use crate::generator::Generator;
 use crate::lent::number;
 use crate::model::{blocks as model, LENGTH, MAP_WORD};
@@ -68,13 +68,13 @@ fn faults() -> Vec<Fault<Case>> {
         }),
         Fault::new(LENGTH, |case: &mut Case, generator| {
             too_long(&mut case.words[LIST], generator);
-            case.words[OUT] = old(case.words[LIST].len(), generator);
+            case.words[OUT] = old_words(case.words[LIST].len(), generator);
         }),
         Fault::new(LENGTH, |case: &mut Case, generator| {
             let right = case.words[LIST].len();
             let wrong = [0, right + 1, 2 * right + 2, right.saturating_sub(1)];
             let wrong: Vec<usize> = wrong.into_iter().filter(|&k| k != right).collect();
-            case.words[OUT] = old(generator.pick(&wrong), generator);
+            case.words[OUT] = old_words(generator.pick(&wrong), generator);
         }),
         Fault::new(MAP_WORD, |case: &mut Case, generator| {
             bad_word(&mut case.words[MAP], generator);
@@ -83,7 +83,7 @@ fn faults() -> Vec<Fault<Case>> {
             let same = case.words[OUT].len() == case.words[LIST].len();
             bad_word(&mut case.words[LIST], generator);
             if same {
-                case.words[OUT] = old(case.words[LIST].len(), generator);
+                case.words[OUT] = old_words(case.words[LIST].len(), generator);
             }
         }),
         // At the end of the longest map that is allowed.
@@ -159,14 +159,9 @@ fn case(map: usize, list: usize, generator: &mut Generator) -> Case {
         words: [
             (0..map).map(|_| offset(generator)).collect(),
             (0..list).map(|_| place(generator)).collect(),
-            old(list, generator),
+            old_words(list, generator),
         ],
     }
-}
-
-fn old(length: usize, generator: &mut Generator) -> Vec<u32> {
-    let numbers = draws::old(length, generator);
-    numbers.iter().map(|x| x.to_bits() as u32).collect()
 }
 
 #[cfg(test)]

@@ -1,6 +1,7 @@
 //! The model of block maps, and of what is added to a Hessian and a gradient through them.
 
-use super::{first, written, LENGTH, MAP_WORD};
+use super::transforms::Transforms;
+use super::{first, written, Matrix, LENGTH, MAP_WORD, SEGMENT, SHAPE};
 use maghnelt::{MAX_ORDER, MAX_WORDS, UNMAPPED};
 use std::ops::Range;
 
@@ -66,11 +67,45 @@ pub fn offset(map: &[u32], frame: usize) -> Option<usize> {
     }
 }
 
-/// The rows of a frame, if it is mapped: dof rows from its offset on.
-pub fn segment(map: &[u32], frame: usize, dof: u32) -> Option<Range<usize>> {
-    let offset = offset(map, frame)?;
-    Some(offset..offset + dof as usize)
+/// A block and a vector, of which as many rows and columns count as a segment has.
+#[derive(Clone, Copy)]
+pub struct Block {
+    /// The block, by row and column.
+    pub h: Matrix<9>,
+    /// The vector.
+    pub g: [f64; 9],
 }
+
+/// Where the frames of a call go.
+#[derive(Clone, Copy)]
+pub struct Blocks<'a> {
+    /// The rows of a frame without a transform.
+    pub dof: u32,
+    /// The block map.
+    pub map: &'a [u32],
+    /// What lies beside it.
+    pub transforms: Transforms<'a>,
+}
+
+impl Blocks<'_> {
+    /// The rows of a frame, if it is mapped: from its offset on as many as its transform has columns, dof rows without one.
+    pub fn segment(&self, frame: usize) -> Option<Range<usize>> {
+        let offset = offset(self.map, frame)?;
+        let columns = self.transforms.shape(frame).map(|[_, columns]| columns);
+        Some(offset..offset + columns.unwrap_or(self.dof) as usize)
+    }
+}
+
+/// Where the block and the vector of dof rows go that a frame has, by its number, and what is added there; nothing for a frame
+/// that is not mapped.
+pub fn added(blocks: &Blocks, frame: usize, block: &Block) -> Option<(Range<usize>, Block)> {
+    let segment = blocks.segment(frame)?;
+    let transform = blocks.transforms.of(frame);
+    Some((segment, transform.map_or(*block, |t| t.applied(block))))
+}
+
+/// Such a rule: [`added`], or another one.
+pub type Added = fn(&Blocks, usize, &Block) -> Option<(Range<usize>, Block)>;
 
 /// The lengths of the Hessian and of the gradient that a call is lent, which are all that it knows of them beforehand.
 #[derive(Clone, Copy)]
@@ -82,17 +117,29 @@ pub struct Target {
 }
 
 impl Target {
-    /// Reason 3 of Hessian, gradient and map.
-    pub fn bad_lengths(self, map: &[u32]) -> bool {
-        let order = self.gradient;
-        order > MAX_ORDER || self.hessian != order * order || map.len() > MAX_WORDS
+    /// Reason 3 of Hessian, gradient, map and what lies beside it.
+    pub fn bad_lengths(self, blocks: &Blocks) -> bool {
+        let (order, words) = (self.gradient, blocks.map.len());
+        order > MAX_ORDER
+            || self.hessian != order * order
+            || words > MAX_WORDS
+            || blocks.transforms.bad_lengths(words)
     }
 
     /// Reason 10: the segment of one of the first frames goes past the end.
-    pub fn exceeded(self, map: &[u32], frames: usize, dof: u32) -> bool {
+    pub fn exceeded(self, blocks: &Blocks, frames: usize) -> bool {
         (0..frames)
-            .filter_map(|frame| segment(map, frame, dof))
+            .filter_map(|frame| blocks.segment(frame))
             .any(|segment| segment.end > self.gradient)
+    }
+
+    /// Tests 9, 14 and 10, each with whether it applies to so many frames.
+    pub fn reasons(self, blocks: &Blocks, frames: usize) -> [(u32, bool); 3] {
+        [
+            (MAP_WORD, bad_word(blocks.map)),
+            (SHAPE, blocks.transforms.bad_shapes(blocks.dof)),
+            (SEGMENT, self.exceeded(blocks, frames)),
+        ]
     }
 }
 
@@ -115,21 +162,16 @@ pub struct Work {
 
 impl Work {
     /// Adds the terms of a block and a vector, at a segment.
-    pub fn add(
-        &mut self,
-        segment: Range<usize>,
-        h: impl Fn(usize, usize) -> f64,
-        g: impl Fn(usize) -> f64,
-    ) {
+    pub fn add(&mut self, segment: Range<usize>, block: &Block) {
         let from = segment.start;
         for j in 0..segment.len() {
             for i in 0..segment.len() {
-                self.terms
-                    .push((Cell::Hessian(from + i, from + j), h(i, j)));
+                let cell = Cell::Hessian(from + i, from + j);
+                self.terms.push((cell, block.h[i][j]));
             }
         }
         for i in 0..segment.len() {
-            self.terms.push((Cell::Gradient(from + i), g(i)));
+            self.terms.push((Cell::Gradient(from + i), block.g[i]));
         }
     }
 

@@ -1,11 +1,12 @@
 //! The model of the calls on frames of one plane.
 
-use super::blocks::{bad_word, segment, Target, Work};
+use super::blocks::{added, Added, Block, Blocks, Target, Work};
 use super::moments::{mean_and_scatter, Decomposition, Moments};
+use super::transforms::Transforms;
 use super::{
     bad_sigma, congruent, dot, first, matrix, store_matrix, stored_matrix, stored_vector, sum,
     sum_from_zero, vector, written, Matrix, Vector, ACTIONS, DOF, EMPTY_LIST, FIXED_COUNT,
-    FRAME_COUNT, LENGTH, MAP_WORD, MAX_DOF, NOT_FINITE, SEGMENT, SIGMA, TOTAL_COUNT,
+    FRAME_COUNT, LENGTH, MAX_DOF, NOT_FINITE, SIGMA, TOTAL_COUNT,
 };
 use maghnelt::{ACTION, CENTRED, DECOMPOSITION, MAX_FRAMES, MOMENTS};
 
@@ -335,14 +336,12 @@ pub fn derivatives(action: &Action, n: Vector, p: Vector) -> Derivatives {
     Derivatives { d, m }
 }
 
-/// What one frame adds: its cost, the block and the vector.
+/// What one frame adds: its cost, and the block and the vector as they are without a transform.
 pub struct FrameTerms {
     /// The cost.
     pub cost: f64,
-    /// The block, by row and column.
-    pub h: [[f64; 9]; 9],
-    /// The vector.
-    pub g: [f64; 9],
+    /// The block and the vector.
+    pub block: Block,
 }
 
 /// What one frame adds under a plane.
@@ -360,10 +359,10 @@ pub fn frame_terms(frame: &Centred, action: &Action, plane: &Plane, weight: f64)
     let p: [Vector; 9] = std::array::from_fn(|i| vector(|k| dot(column(i), vector(|l| s[l][k]))));
     FrameTerms {
         cost: (dot(a_n, s_an) + (count * along) * along) * weight,
-        h: std::array::from_fn(|i| {
-            std::array::from_fn(|j| (dot(p[i], column(j)) + (m[i] * m[j]) * count) * weight)
-        }),
-        g: std::array::from_fn(|i| (dot(column(i), s_an) + m[i] * (count * along)) * weight),
+        block: Block {
+            h: matrix(|i, j| (dot(p[i], column(j)) + (m[i] * m[j]) * count) * weight),
+            g: std::array::from_fn(|i| (dot(column(i), s_an) + m[i] * (count * along)) * weight),
+        },
     }
 }
 
@@ -375,7 +374,7 @@ pub fn fixed_cost(fixed: &Centred, plane: &Plane, weight: f64) -> f64 {
     (spread + (fixed.count * along) * along) * weight
 }
 
-/// What `frames_accumulate` takes, its Hessian and gradient apart.
+/// What `frames_accumulate_transformed` takes, its Hessian and gradient apart; `frames_accumulate` takes no transforms.
 pub struct Accumulate<'a> {
     /// The number of parameters.
     pub dof: u32,
@@ -391,25 +390,41 @@ pub struct Accumulate<'a> {
     pub decomposition: &'a [f64],
     /// The block map.
     pub map: &'a [u32],
+    /// What lies beside it.
+    pub transforms: Transforms<'a>,
 }
 
-impl Accumulate<'_> {
-    /// Tests 1, 2, 3, 7, 8, 9, 10.
-    pub fn refusal(&self, target: Target) -> u32 {
+impl<'a> Accumulate<'a> {
+    /// Tests 1, 2, 3, 7, 8, 9, 14, 10, each with whether it applies. Without transforms 14 does not.
+    pub fn reasons(&self, target: Target) -> Vec<(u32, bool)> {
+        let blocks = self.blocks();
         let lengths = bad_frames(self.frames, CENTRED)
             || bad_fixed(self.fixed, CENTRED)
             || self.decomposition.len() != DECOMPOSITION
-            || target.bad_lengths(self.map);
-        let frames = self.frames.len() / CENTRED;
-        first(&[
+            || target.bad_lengths(&blocks);
+        let mut reasons = vec![
             (DOF, self.dof > MAX_DOF),
             (EMPTY_LIST, self.frames.is_empty()),
             (LENGTH, lengths),
             (SIGMA, bad_sigma(self.sigma)),
             (ACTIONS, bad_actions(self.actions, self.frames)),
-            (MAP_WORD, bad_word(self.map)),
-            (SEGMENT, target.exceeded(self.map, frames, self.dof)),
-        ])
+        ];
+        reasons.extend(target.reasons(&blocks, self.frames.len() / CENTRED));
+        reasons
+    }
+
+    /// Why it is refused, or 0.
+    pub fn refusal(&self, target: Target) -> u32 {
+        first(&self.reasons(target))
+    }
+
+    /// Where its frames go.
+    pub fn blocks(&self) -> Blocks<'a> {
+        Blocks {
+            dof: self.dof,
+            map: self.map,
+            transforms: self.transforms,
+        }
     }
 
     /// The sets that it reads.
@@ -427,6 +442,11 @@ impl Accumulate<'_> {
 
     /// What it works out when it is accepted: without a plane a cost of 0 and no term.
     pub fn work(&self) -> Work {
+        self.work_by(added)
+    }
+
+    /// The same with another rule for what is added for a frame.
+    pub fn work_by(&self, added: Added) -> Work {
         let mut work = Work {
             cost: 0.0,
             terms: Vec::new(),
@@ -437,10 +457,10 @@ impl Accumulate<'_> {
         let weight = 1.0 / (self.sigma * self.sigma);
         let sets = self.sets();
         for (k, (frame, action)) in sets.frames.iter().enumerate() {
-            let FrameTerms { cost, h, g } = frame_terms(frame, action, &plane, weight);
+            let FrameTerms { cost, block } = frame_terms(frame, action, &plane, weight);
             work.cost += cost;
-            if let Some(segment) = segment(self.map, k, self.dof) {
-                work.add(segment, |i, j| h[i][j], |i| g[i]);
+            if let Some((segment, block)) = added(&self.blocks(), k, &block) {
+                work.add(segment, &block);
             }
         }
         if let Some(fixed) = &sets.fixed {
@@ -450,13 +470,15 @@ impl Accumulate<'_> {
     }
 }
 
-/// The call `frames_accumulate` on frames, fixed, sigma, actions, decomposition, Hessian, gradient and cost, with dof and
-/// map.
-pub fn accumulate_call(
+/// The call `frames_accumulate_transformed` on frames, fixed, sigma, actions, decomposition, transforms, Hessian, gradient and
+/// cost, with dof, map and shapes.
+pub fn accumulate_transformed_call(
     refusal: impl Fn(&Accumulate, Target) -> u32,
     work: impl Fn(&Accumulate) -> Work,
-) -> impl Fn([&mut [f64]; 8], [&mut [u32]; 2]) -> u32 {
-    move |[frames, fixed, sigma, actions, decomposition, hessian, gradient, cost], [dof, map]| {
+) -> impl Fn([&mut [f64]; 9], [&mut [u32]; 3]) -> u32 {
+    move |numbers, [dof, map, shapes]| {
+        let [frames, fixed, sigma, actions, decomposition, transforms, hessian, gradient, cost] =
+            numbers;
         let inputs = Accumulate {
             dof: dof[0],
             frames,
@@ -465,6 +487,10 @@ pub fn accumulate_call(
             actions,
             decomposition,
             map,
+            transforms: Transforms {
+                shapes,
+                numbers: transforms,
+            },
         };
         let target = Target {
             hessian: hessian.len(),
@@ -475,6 +501,31 @@ pub fn accumulate_call(
             work(&inputs).write(hessian, gradient, &mut cost[0]);
         }
         refusal
+    }
+}
+
+/// The call `frames_accumulate`, which is the one with transforms without any: on frames, fixed, sigma, actions, decomposition,
+/// Hessian, gradient and cost, with dof and map.
+pub fn accumulate_call(
+    refusal: impl Fn(&Accumulate, Target) -> u32,
+    work: impl Fn(&Accumulate) -> Work,
+) -> impl Fn([&mut [f64]; 8], [&mut [u32]; 2]) -> u32 {
+    let call = accumulate_transformed_call(refusal, work);
+    move |numbers, [dof, map]| {
+        let [frames, fixed, sigma, actions, decomposition, hessian, gradient, cost] = numbers;
+        let none = &mut [];
+        let numbers = [
+            frames,
+            fixed,
+            sigma,
+            actions,
+            decomposition,
+            none,
+            hessian,
+            gradient,
+            cost,
+        ];
+        call(numbers, [dof, map, &mut []])
     }
 }
 
@@ -658,6 +709,7 @@ mod tests {
             actions: &action,
             decomposition: &fit,
             map: &[0],
+            transforms: Transforms::NONE,
         };
         let work = inputs.work();
         assert_eq!(work.cost, 16.0);
@@ -716,6 +768,7 @@ mod tests {
                 actions: &scene.actions,
                 decomposition: &decompositions[..DECOMPOSITION],
                 map: &map,
+                transforms: Transforms::NONE,
             }
             .work();
             let rows = Linearize {

@@ -1,10 +1,11 @@
 //! The model of the calls on matches: a list of them on one pose, and one below its chain.
 
-use super::blocks::{bad_word, segment, Target, Work};
+use super::blocks::{added, Added, Block, Blocks, Target, Work};
 use super::frames::{derivatives, Action, Rows};
+use super::transforms::Transforms;
 use super::{
-    bad_sigma, dot, first, stored_vector, sum_from_zero, vector, written, Vector, ACTIONS, DOF,
-    EMPTY_LIST, LENGTH, MAP_WORD, MAX_DOF, NOT_FINITE, SEGMENT, SIGMA,
+    bad_sigma, dot, first, matrix, stored_vector, sum_from_zero, vector, written, Vector, ACTIONS,
+    DOF, EMPTY_LIST, LENGTH, MAX_DOF, NOT_FINITE, SIGMA,
 };
 use maghnelt::{ACTION, MATCH, MAX_MATCHES};
 
@@ -53,7 +54,9 @@ pub fn residual_and_row(m: &Match, action: &Action) -> (f64, [f64; 9]) {
     (residual, row.map(|entry| entry * information))
 }
 
-/// What the two calls on lists take, Hessian and gradient apart; a call without a map has an empty one.
+/// What the calls on lists take, Hessian and gradient apart; a call without a map has an empty one, and one without
+/// transforms has none.
+#[derive(Clone, Copy)]
 pub struct Matches<'a> {
     /// The number of parameters.
     pub dof: u32,
@@ -63,9 +66,11 @@ pub struct Matches<'a> {
     pub action: &'a [f64],
     /// The block map.
     pub map: &'a [u32],
+    /// What lies beside it.
+    pub transforms: Transforms<'a>,
 }
 
-impl Matches<'_> {
+impl<'a> Matches<'a> {
     /// The reasons that every call on a list tests: 1, 2, 3, then 6 and 7 match by match, then 8.
     fn reasons(&self, lengths: bool) -> Vec<(u32, bool)> {
         let records = self.matches.chunks_exact(MATCH).map(Match::read);
@@ -80,13 +85,28 @@ impl Matches<'_> {
         ]
     }
 
+    /// The reasons that accumulating tests, each with whether it applies: those, and then 9, 14 and 10. Without transforms 14
+    /// does not.
+    pub fn accumulate_reasons(&self, target: Target) -> Vec<(u32, bool)> {
+        let blocks = self.blocks();
+        let mut reasons = self.reasons(target.bad_lengths(&blocks));
+        // A match list is frame 0.
+        reasons.extend(target.reasons(&blocks, 1));
+        reasons
+    }
+
     /// Why accumulating is refused.
     pub fn accumulate_refusal(&self, target: Target) -> u32 {
-        let mut reasons = self.reasons(target.bad_lengths(self.map));
-        reasons.push((MAP_WORD, bad_word(self.map)));
-        // A match list is frame 0.
-        reasons.push((SEGMENT, target.exceeded(self.map, 1, self.dof)));
-        first(&reasons)
+        first(&self.accumulate_reasons(target))
+    }
+
+    /// Where the list goes.
+    pub fn blocks(&self) -> Blocks<'a> {
+        Blocks {
+            dof: self.dof,
+            map: self.map,
+            transforms: self.transforms,
+        }
     }
 
     /// Why linearizing is refused; `residual` and `jacobian` are lengths.
@@ -106,11 +126,11 @@ impl Matches<'_> {
 
     /// What accumulating works out when it is accepted: each group of 512 is summed from 0, then the groups' sums from 0.
     pub fn work(&self) -> Work {
-        self.work_by_groups(GROUP)
+        self.work_by(GROUP, added)
     }
 
-    /// The same with another size of the groups.
-    pub fn work_by_groups(&self, group: usize) -> Work {
+    /// The same with another size of the groups, or another rule for what is added for the list.
+    pub fn work_by(&self, group: usize, added: Added) -> Work {
         let rows = self.rows();
         let summed = |term: &dyn Fn(&(f64, [f64; 9])) -> f64| {
             let groups = rows.chunks(group);
@@ -120,12 +140,16 @@ impl Matches<'_> {
             cost: summed(&|(r, _)| r * r),
             terms: Vec::new(),
         };
-        if let Some(segment) = segment(self.map, 0, self.dof) {
-            work.add(
-                segment,
-                |i, j| summed(&|(_, row)| row[i] * row[j]),
-                |i| summed(&|(r, row)| row[i] * r),
-            );
+        let dof = self.dof as usize;
+        let block = Block {
+            h: matrix(|i, j| match i.max(j) < dof {
+                true => summed(&|(_, row)| row[i] * row[j]),
+                false => 0.0,
+            }),
+            g: std::array::from_fn(|i| summed(&|(r, row)| row[i] * r)),
+        };
+        if let Some((segment, block)) = added(&self.blocks(), 0, &block) {
+            work.add(segment, &block);
         }
         work
     }
@@ -141,17 +165,22 @@ impl Matches<'_> {
     }
 }
 
-/// The call `matches_accumulate` on matches, action, Hessian, gradient and cost, with dof and map.
-pub fn accumulate_call(
+/// The call `matches_accumulate_transformed` on matches, action, transforms, Hessian, gradient and cost, with dof, map and
+/// shapes.
+pub fn accumulate_transformed_call(
     refusal: impl Fn(&Matches, Target) -> u32,
     work: impl Fn(&Matches) -> Work,
-) -> impl Fn([&mut [f64]; 5], [&mut [u32]; 2]) -> u32 {
-    move |[matches, action, hessian, gradient, cost], [dof, map]| {
+) -> impl Fn([&mut [f64]; 6], [&mut [u32]; 3]) -> u32 {
+    move |[matches, action, transforms, hessian, gradient, cost], [dof, map, shapes]| {
         let inputs = Matches {
             dof: dof[0],
             matches,
             action,
             map,
+            transforms: Transforms {
+                shapes,
+                numbers: transforms,
+            },
         };
         let target = Target {
             hessian: hessian.len(),
@@ -162,6 +191,19 @@ pub fn accumulate_call(
             work(&inputs).write(hessian, gradient, &mut cost[0]);
         }
         refusal
+    }
+}
+
+/// The call `matches_accumulate`, which is the one with transforms without any: on matches, action, Hessian, gradient and cost,
+/// with dof and map.
+pub fn accumulate_call(
+    refusal: impl Fn(&Matches, Target) -> u32,
+    work: impl Fn(&Matches) -> Work,
+) -> impl Fn([&mut [f64]; 5], [&mut [u32]; 2]) -> u32 {
+    let call = accumulate_transformed_call(refusal, work);
+    move |[matches, action, hessian, gradient, cost], [dof, map]| {
+        let numbers = [matches, action, &mut [], hessian, gradient, cost];
+        call(numbers, [dof, map, &mut []])
     }
 }
 
@@ -176,6 +218,7 @@ pub fn linearize_call(
             matches,
             action,
             map: &[],
+            transforms: Transforms::NONE,
         };
         let refusal = refusal(&inputs, residual.len(), jacobian.len());
         if refusal == 0 {
@@ -270,6 +313,7 @@ pub fn single_call(
 mod tests {
     use super::*;
     use crate::model::blocks::Cell;
+    use crate::model::SEGMENT;
 
     /// An action that leaves points where they are.
     fn still() -> [f64; ACTION] {
@@ -297,9 +341,10 @@ mod tests {
             matches: &matches,
             action: &still(),
             map: &[],
+            transforms: Transforms::NONE,
         };
         assert_eq!(inputs.work().cost, 18_014_398_509_481_988.0);
-        assert_eq!(inputs.work_by_groups(1000).cost, 18_014_398_509_481_984.0);
+        assert_eq!(inputs.work_by(1000, added).cost, 18_014_398_509_481_984.0);
     }
 
     #[test]
@@ -311,6 +356,7 @@ mod tests {
                 matches: &with_residual(1.0),
                 action: &action,
                 map: &[offset],
+                transforms: Transforms::NONE,
             };
             inputs.accumulate_refusal(Target {
                 hessian: 36,
@@ -332,6 +378,7 @@ mod tests {
                 matches,
                 action: &[],
                 map: &[],
+                transforms: Transforms::NONE,
             };
             inputs.linearize_refusal(matches.len() / MATCH, 0)
         };
@@ -355,6 +402,7 @@ mod tests {
             matches: &matches,
             action: &action,
             map: &[4],
+            transforms: Transforms::NONE,
         };
         // The distance is 3 and the row (3 + 2, 5), both twice.
         let work = inputs.work();

@@ -9,6 +9,7 @@ pub mod frames;
 pub mod matches;
 pub mod moments;
 pub mod plane;
+pub mod transforms;
 
 /// The reason for a dof above 9.
 pub const DOF: u32 = 1;
@@ -36,6 +37,8 @@ pub const NORMAL: u32 = 11;
 pub const VARIANCE: u32 = 12;
 /// The reason for a fixed count below 0 in a strict build.
 pub const FIXED_COUNT: u32 = 13;
+/// The reason for a transform of a wrong shape.
+pub const SHAPE: u32 = 14;
 
 /// The most columns of an action's derivatives.
 pub const MAX_DOF: u32 = 9;
