@@ -10,14 +10,12 @@ use lib.Dec.{eqb, ltb}
 use lib.ListN.{length}
 use lib.Ieee.{Float}
 use borrow.Author.Tests.{ltb-true, ltb-false, le-ltb, eqb-true, eqb-false, eq-eqb, ne-eqb, not-false}
-use Rattle.sums.specs.Sum.{_⊗_}
-use Rattle.sums.specs.Laws.{sumTo-same}
 use Rattle.refusals.specs.Refusal.{none, either-none}
 use Rattle.normal_blocks.specs.Somewhere.{somewhere, nowhere-at}
 use Rattle.normal_blocks.specs.Map.{badWords, lookup, someExceeds}
 use Rattle.normal_blocks.specs.Calls.{mapRefusal}
 use Rattle.call_lists.specs.Frames.{Frames}
-use Rattle.block_transforms.specs.Transform.{ROOM, shapeAt, leftProduct, transformedBlock, transformedVector, widthAt, through}
+use Rattle.block_transforms.specs.Transform.{ROOM, shapeAt, widthAt, through}
 use Rattle.block_transforms.specs.Reasons.{badBeside, MOST_COLUMNS, misfit, misfitAt, someMisfit, throughRefusal}
 use Rattle.block_transforms.specs.declared.Shape.{Shape}
 use Rattle.block_transforms.specs.declared.Shape.the-variants.{Absent, Sized}
@@ -115,18 +113,6 @@ transform-there words shapes numbers k rows cols ok sized =
 -- and have room for all its entries
 pub room : (rows cols : ℕ) → rows ≤ 9 → cols ≤ 9 → cols * rows ≤ ROOM
 room rows cols few narrow = omega (arith, mul-le-mul-right rows narrow)
-
--- ---- equal blocks and equal vectors give equal ones
-pub block-through : (rows : ℕ) (t m m′ : ℕ → ℕ → Float) → ((i j : ℕ) → i < rows → j < rows → m i j ≡ m′ i j) → (i j : ℕ)
-    → transformedBlock rows t m i j ≡ transformedBlock rows t m′ i j
-unfolding transformedBlock leftProduct
-block-through rows t m m′ same i j =
-    sumTo-same rows _ _ (λ k l. ap (λ (u : Float). u ⊗ t k j) (sumTo-same rows _ _ (λ r h. ap (λ (x : Float). t r i ⊗ x) (same r k h l))))
-
-pub vector-through : (rows : ℕ) (t : ℕ → ℕ → Float) (v v′ : ℕ → Float) → ((i : ℕ) → i < rows → v i ≡ v′ i) → (i : ℕ)
-    → transformedVector rows t v i ≡ transformedVector rows t v′ i
-unfolding transformedVector
-vector-through rows t v v′ same i = sumTo-same rows _ _ (λ r h. ap (λ (x : Float). t r i ⊗ x) (same r h))
 
 -- ---- BOTH SLICES EMPTY MEAN NONE: the frames, and the tests, are those of a call without transforms
 pub shape-none : (k : ℕ) → shapeAt [] k ≡ Absent

@@ -378,7 +378,7 @@ pub extern "C" fn maghnelt_matches_accumulate(
 ) -> u32
     ensures { λ r. ⌜ Accumulated (matchesCall (length (now (hessian .entry))) (length (now (gradient .entry))) (record { dof = dof; matches = now (matches .entry); action = now (action .entry); map = now (map .entry) })) (now (hessian .entry)) (now (gradient .entry)) (now (cost .entry)) r (now (hessian .exit)) (now (gradient .exit)) (now (cost .exit)) ⌝ }
 {
-    map_planes::accumulate(dof, matches, action, map, hessian, gradient, cost)
+    transformed_matches::accumulate_plain(dof, matches, action, map, hessian, gradient, cost)
 }
 
 // The same through the transform of word 0.

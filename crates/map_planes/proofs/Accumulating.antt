@@ -1,7 +1,7 @@
 -- Laws of accumulating a match list: its tests in two parts, what an accepted call is known by, the ways out, and a call without transforms. Assumes nothing.
 use Prim.Native.Nat.{ℕ, _*_}
 use mathlib.Core.Path.{_≡_, refl, sym, ap, ap₂, _∙_}
-use native.Mathlib.Nat.{suc-ne-zero, zero-add}
+use native.Mathlib.Nat.{suc-ne-zero}
 use mathlib.Core.Bool.{Bool, true, false, not, _||_}
 use mathlib.Core.List.{List, [], _∷_, _++_}
 use lib.Dec.{eqb}
@@ -10,16 +10,10 @@ use lib.Ieee.{Float}
 use Rattle.refusals.specs.Refusal.{Reason, _when_, firstOf, either-none}
 use Rattle.derivative.specs.Action.{actionSize}
 use Rattle.terms.specs.Terms.{addAll, upto}
-use Rattle.normal_blocks.specs.Map.{lookup}
 use Rattle.normal_blocks.specs.Calls.{mapReasons, mapRefusal, badTarget, square}
-use Rattle.normal_blocks.specs.Target.{hessianAt, gradientAt, entryOf, numberFrom}
-use Rattle.normal_blocks.specs.TargetLaws.{hessian-same, gradient-same}
-use Rattle.normal_blocks.specs.declared.Place.{Place}
-use Rattle.match_sums.specs.declared.MatchSums.{MatchSums}
-use Rattle.match_sums.specs.Sums.{SumsAre}
-use Rattle.match_sums.specs.Groups.{matchCount, listCost, listBlock, listVector}
+use Rattle.match_sums.specs.Groups.{matchCount, listCost}
 use Rattle.call_lists.specs.ListLaws.{every-append}
-use Rattle.call_lists.specs.Frames.{Frames, frameHessian, frameGradient}
+use Rattle.call_lists.specs.Frames.{frameHessian, frameGradient}
 use Rattle.call_lists.specs.Accumulated.{Accumulated}
 use Rattle.call_lists.specs.Outcomes.{accumulated-refused, accumulated-framed}
 use Rattle.block_transforms.specs.Transform.{Beside, without, shapeAt}
@@ -27,7 +21,7 @@ use Rattle.block_transforms.specs.Reasons.{badBeside, throughRefusal}
 use Rattle.block_transforms.proofs.Laws.{Passed, passed, refusal-none, through-none}
 use Rattle.map_planes.specs.Reasons.{Numbered, orElse, orElse-some, first-append, neither, parts-numbered}
 use Rattle.map_planes.specs.Calls.{Fit, fit, matchesReasons, matchesRefusal, listReasons, reasonsAt, reasons-numbered}
-use Rattle.map_planes.specs.Accumulate.{Work, badSlices, lastReasons, transformedMatchesRefusal, oneFrame, framesOf, transformedMatchesCall, accumulateRefusal, matchesCall}
+use Rattle.map_planes.specs.Accumulate.{Work, badSlices, lastReasons, transformedMatchesRefusal, oneFrame, framesOf, transformedMatchesCall, accumulateRefusal}
 
 matches-numbered : (dof : ℕ) (ms : List Float) (misfit : Bool) (x : List Float) → Numbered (matchesReasons dof ms misfit x)
 matches-numbered dof ms misfit x =
@@ -90,16 +84,6 @@ module _ (m n : ℕ) (b : Beside Work) (h g : List Float) (x : Float) where
   accumulated-one y h′ g′ e c hs gs =
       accumulated-framed h g x (transformedMatchesRefusal m n b) n (listCost (b .work .action) (b .work .matches)) y (framesOf b) h′ g′ e c hs gs
 
--- ---- the sums as they were handed back are the entries that the frame adds
-module _ (x ms : List Float) (dof : ℕ) (s : MatchSums) (are : SumsAre x ms dof s) where
-  pub block-entries : (n : ℕ) (p : Place) (h h′ : List Float) → h′ ≡ addAll h (hessianAt n dof p (entryOf 9 (s .block))) → h′ ≡ addAll h (hessianAt n dof p (listBlock x ms))
-  unfolding entryOf numberFrom
-  block-entries n p h h′ e = e ∙ ap (addAll h) (hessian-same n dof p _ (listBlock x ms) (are .block-is))
-
-  pub vector-numbers : (p : Place) (g g′ : List Float) → g′ ≡ addAll g (gradientAt dof p (numberFrom (s .vector) 0)) → g′ ≡ addAll g (gradientAt dof p (listVector x ms))
-  unfolding numberFrom
-  vector-numbers p g g′ e = e ∙ ap (addAll g) (gradient-same dof p _ (listVector x ms) (λ i l. rw (zero-add i) (are .vector-is i l)))
-
 -- ---- WITHOUT TRANSFORMS, which document 01 knows nothing of: its tests, and its one frame
 slices-none : (m n : ℕ) (w : Work) → badSlices m n (without w) ≡ badTarget (length (w .map)) m n
 unfolding badBeside
@@ -120,20 +104,3 @@ plain-refusal m n w =
 
 pub plain-frame : (w : Work) → framesOf (without w) ≡ oneFrame w
 plain-frame w = through-none [] (oneFrame w)
-
-module _ (m n : ℕ) (w : Work) (misfit : Bool) (why : ℕ) (lengths : misfit ≡ badTarget (length (w .map)) m n)
-    (asked : why ≡ matchesRefusal (w .dof) (w .matches) misfit (w .action)) where
-  pub plain-refuses : (why ≡ 0 → ⊥) → why ≡ accumulateRefusal m n w
-  plain-refuses = list-refuses m n (without w) misfit why (lengths ∙ sym (slices-none m n w)) asked
-
-  pub plain-decides : why ≡ 0 → accumulateRefusal m n w ≡ mapRefusal (w .map) 1 (w .dof) n
-  plain-decides e = map-decides m n (without w) misfit why (lengths ∙ sym (slices-none m n w)) asked e ∙ refusal-none (w .map) 1 (w .dof) n
-
-pub plain-one : (m n : ℕ) (w : Work) (h g : List Float) (x y : Float) (h′ g′ : List Float) → accumulateRefusal m n w ≡ 0 → y ≡ listCost (w .action) (w .matches)
-    → h′ ≡ addAll h (hessianAt n (w .dof) (lookup (w .map) 0) (listBlock (w .action) (w .matches)))
-    → g′ ≡ addAll g (gradientAt (w .dof) (lookup (w .map) 0) (listVector (w .action) (w .matches)))
-    → Accumulated (matchesCall m n w) h g x 0 h′ g′ y
-unfolding frameHessian frameGradient
-plain-one m n w h g x y h′ g′ e c hs gs =
-    accumulated-one m n (without w) h g x y h′ g′ e c
-    (hs ∙ ap (λ (f : Frames). addAll h (frameHessian n f 0)) (sym (plain-frame w))) (gs ∙ ap (λ (f : Frames). addAll g (frameGradient f 0)) (sym (plain-frame w)))

@@ -1,6 +1,5 @@
 -- Laws of frames that are added through transforms: one frame, a loop over them, and the call. Assumes nothing.
 use Prim.Native.Nat.{ℕ, _+_, _*_, _<_}
-use native.Mathlib.Nat.{zero-add}
 use native.Mathlib.Omega.{arith}
 use mathlib.Core.Path.{_≡_, refl, sym, ap, _∙_}
 use mathlib.Core.Bool.{false}
@@ -8,70 +7,61 @@ use mathlib.Core.List.{List, [], _∷_}
 use lib.ListN.{length}
 use lib.Ieee.{Float}
 use Rattle.sums.specs.Sum.{_⊕_}
-use Rattle.terms.specs.Terms.{addAll, segment, block}
+use Rattle.terms.specs.Terms.{addAll}
 use Rattle.terms.specs.Laws.{block-same, segment-same}
 use Rattle.normal_blocks.specs.declared.Place.{Place}
 use Rattle.normal_blocks.specs.declared.Place.the-variants.{At, Unmapped}
 use Rattle.normal_blocks.specs.Map.{lookup, exceeds}
 use Rattle.normal_blocks.specs.Laws.{fits}
-use Rattle.normal_blocks.specs.Target.{entryOf, numberFrom}
 use Rattle.normal_blocks.specs.TargetLaws.{hessian-mapped, gradient-mapped, hessian-unmapped, gradient-unmapped}
 use Rattle.call_lists.specs.Accumulated.{Accumulated}
-use Rattle.block_transforms.specs.Transform.{Beside, without, ROOM, shapeAt, entryFrom, transformedBlock, transformedVector, blockUnder, vectorUnder, widthUnder, widthAt}
-use Rattle.block_transforms.proofs.Laws.{transform-fits, every-fits, transform-there, block-through, vector-through}
+use Rattle.block_transforms.specs.Transform.{Beside, ROOM, shapeAt, entryFrom, blockUnder, vectorUnder, widthUnder, widthAt}
+use Rattle.block_transforms.proofs.Laws.{transform-fits, every-fits, transform-there}
 use Rattle.block_transforms.specs.declared.Shape.{Shape}
 use Rattle.block_transforms.specs.declared.Shape.the-variants.{Absent, Sized}
-use Rattle.transform_products.specs.declared.Transformed.{Transformed}
-use Rattle.transform_products.specs.Nine.{Applied}
+use Rattle.transform_products.specs.Rows.{rowsOf, spaced, AddedRows, AddedThrough}
+use Rattle.transform_products.proofs.Laws.{Tall, under-same, under-run}
 use Rattle.point_moments.specs.declared.scatter.Centred.{Centred}
 use Rattle.plane_fit.specs.Fit.{frameCount, frameAt, actionAt}
 use Rattle.plane_fit.specs.declared.axis.Fit.the-variants.{Plane}
 use Rattle.frame_segment.specs.Frame.{blockEntry, pulledEntry}
 use Rattle.frame_segment.specs.Steps.{Added, Held}
-use Rattle.frame_stored.specs.declared.Stored.{Stored}
 use Rattle.frame_stored.specs.Stored.{FrameStored}
 use Rattle.frame_parts.specs.Frame.{vectorEntry}
 use Rattle.frame_cost.specs.Cost.{weightOf, frameCost, costAt}
 use Rattle.frame_cost.specs.declared.Pull.{Pull}
 use Rattle.frame_blocks.specs.Pulls.{pullAt}
 use Rattle.frame_blocks.specs.Frames.{first-more}
-use Rattle.plane_moments.specs.Accumulate.{FramesWork, transformedFramesRefusal, fitOf, transformedFramesCall, framesCall}
+use Rattle.plane_moments.specs.Accumulate.{FramesWork, transformedFramesRefusal, fitOf, transformedFramesCall}
 use Rattle.plane_moments.proofs.Accumulating.{accepted-call, plane-call}
 use Rattle.transformed_frames.specs.Frames.{throughUnder, There, Ready, FrameAdded, Summed, AllAdded}
 
--- ---- a frame's numbers, as they are and through a transform, are the entries that are added
-module _ (x : List Float) (f : Centred) (n turn : List Float) (shift weight : Float) (width : ℕ) (r : Stored) (are : FrameStored x f n turn shift weight width r) where
-  pub stored-added : (order at : ℕ) (h h′ g g′ : List Float) → h′ ≡ addAll h (block order at width (entryOf 9 (r .block))) → g′ ≡ addAll g (segment at width (numberFrom (r .vector) 0))
-      → Added order at width (blockEntry x f n weight) (pulledEntry x f n turn shift weight) h h′ g g′
-  unfolding entryOf numberFrom
-  stored-added order at h h′ g g′ eh eg = record {
-    hessian = eh ∙ ap (addAll h) (block-same order at width _ _ (are .block-is));
-    gradient = eg ∙ ap (addAll g) (segment-same at width _ _ (λ i li. rw (zero-add i) (are .vector-is i li)));
+-- ---- stored numbers at row `at`, without a transform and with one
+module _ (order at dof stride : ℕ) (s : Shape) (t : List Float) (from : ℕ) (m h h′ g g′ : List Float) where
+  abbrev StoredAdded : Type 0
+  StoredAdded = Added order at (widthUnder s dof) (blockUnder s (entryFrom t from) (rowsOf stride m)) (vectorUnder s (entryFrom t from) (spaced stride m dof)) h h′ g g′
+
+  pub rows-added : s ≡ Absent → AddedRows order at dof stride m h h′ g g′ → StoredAdded
+  rows-added q a = rw q (record { hessian = a .hessian; gradient = a .gradient })
+
+  pub through-added : (rows cols : ℕ) (u : List Float) → s ≡ Sized rows cols → rows ≡ dof → AddedThrough order at rows cols stride t from m u h h′ g g′ → StoredAdded
+  through-added rows cols u q tall a = rw (q, sym tall) (record { hessian = a .hessian; gradient = a .gradient })
+
+  -- and they are a frame's
+  pub frame-added : (x : List Float) (f : Centred) (n turn : List Float) (shift weight : Float) → Tall dof s → FrameStored x f n turn shift weight dof stride m → StoredAdded
+      → Added order at (widthUnder s dof) (blockUnder s (entryFrom t from) (blockEntry x f n weight)) (vectorUnder s (entryFrom t from) (pulledEntry x f n turn shift weight)) h h′ g g′
+  frame-added x f n turn shift weight tall are a = record {
+    hessian = a .hessian ∙ ap (addAll h) (block-same order at (widthUnder s dof) _ _ (under-same dof s (entryFrom t from) (rowsOf stride m) (blockEntry x f n weight) tall (are .block-is)));
+    gradient = a .gradient ∙ ap (addAll g) (segment-same at (widthUnder s dof) _ _ (under-run dof s (entryFrom t from) (spaced stride m dof) (pulledEntry x f n turn shift weight) tall (are .vector-is)));
   }
 
-  pub through-added : (transforms : List Float) (from cols : ℕ) (d : Transformed) → Applied transforms from width cols (r .block) (r .vector) d
-      → (order at : ℕ) (h h′ g g′ : List Float) → h′ ≡ addAll h (block order at cols (entryOf 9 (d .block))) → g′ ≡ addAll g (segment at cols (numberFrom (d .vector) 0))
-      → Added order at cols (transformedBlock width (entryFrom transforms from width) (blockEntry x f n weight)) (transformedVector width (entryFrom transforms from width) (pulledEntry x f n turn shift weight)) h h′ g g′
-  unfolding entryOf numberFrom
-  through-added transforms from cols d done order at h h′ g g′ eh eg = record {
-    hessian = eh ∙ ap (addAll h) (block-same order at cols _ _ (λ i j li lj. done .block-is i j li lj ∙ block-through width (entryFrom transforms from width) _ (blockEntry x f n weight) (are .block-is) i j));
-    gradient = eg ∙ ap (addAll g) (segment-same at cols _ _ (λ i li. rw (zero-add i) (done .vector-is i li ∙ vector-through width (entryFrom transforms from width) _ (pulledEntry x f n turn shift weight) (are .vector-is) i)));
-  }
-
--- ---- a frame at an offset, without a transform and with one; and a frame that goes nowhere
+-- ---- a frame at an offset, and one that goes nowhere
 module _ (order dof : ℕ) (s : Shape) (t : ℕ → ℕ → ℕ → Float) (p : Place) (e : ℕ → ℕ → Float) (v : ℕ → Float) (h h′ g g′ : List Float) where
-  frame-mapped : (at : ℕ) → p ≡ At at → Added order at (widthUnder s dof) (blockUnder s t e) (vectorUnder s t v) h h′ g g′ → FrameAdded order dof s t p e v h h′ g g′
+  pub frame-mapped : (at : ℕ) → p ≡ At at → Added order at (widthUnder s dof) (blockUnder s t e) (vectorUnder s t v) h h′ g g′ → FrameAdded order dof s t p e v h h′ g g′
   frame-mapped at mapped a = record {
     hessian = hessian-mapped (widthUnder s dof) p at mapped order (blockUnder s t e) h h′ (a .hessian);
     gradient = gradient-mapped (widthUnder s dof) p at mapped (vectorUnder s t v) g g′ (a .gradient);
   }
-
-  pub frame-absent : (at : ℕ) → p ≡ At at → s ≡ Absent → Added order at dof e v h h′ g g′ → FrameAdded order dof s t p e v h h′ g g′
-  frame-absent at mapped q a = frame-mapped at mapped (rw q a)
-
-  pub frame-sized : (at rows cols : ℕ) → p ≡ At at → s ≡ Sized rows cols → Added order at cols (transformedBlock rows (t rows) e) (transformedVector rows (t rows) v) h h′ g g′
-      → FrameAdded order dof s t p e v h h′ g g′
-  frame-sized at rows cols mapped q a = frame-mapped at mapped (rw q a)
 
 pub frame-unmapped : (order dof : ℕ) (s : Shape) (t : ℕ → ℕ → ℕ → Float) (p : Place) (e : ℕ → ℕ → Float) (v : ℕ → Float) (h g : List Float) → p ≡ Unmapped → FrameAdded order dof s t p e v h h g g
 frame-unmapped order dof s t p e v h g nowhere = record {
@@ -129,12 +119,3 @@ pub all-call : (h g : List Float) (x : Float) (b : Beside FramesWork) (u v w off
 all-call h g x b u v w offset weight r h′ g′ e found weighed added =
     let all : AllAdded (length g) (b .work .dof) (b .work .frames) (b .work .fixed) (b .work .actions) (b .work .map) (b .shapes) (b .transforms) (u ∷ v ∷ w ∷ []) offset (weightOf (b .work .sigma)) r h h′ g g′ = rw weighed at added in
     plane-call h g x b e u v w offset r h′ g′ found (all .cost) (all .hessian) (all .gradient)
-
--- with empty slices the call is one that takes no transforms
-empty : {A : Type 0} (l : List A) → length l ≡ 0 → l ≡ []
-empty [] e = refl
-empty (x ∷ xs) e = absurd (omega arith)
-
-pub with-empty : (h g : List Float) (x : Float) (b : Beside FramesWork) (r : ℕ) (h′ g′ : List Float) (x′ : Float) → length (b .shapes) ≡ 0 → length (b .transforms) ≡ 0
-    → Accumulated (framesCall (length h) (length g) (b .work)) h g x r h′ g′ x′ → Accumulated (transformedFramesCall (length h) (length g) b) h g x r h′ g′ x′
-with-empty h g x b r h′ g′ x′ shapes transforms a = rw (empty (b .shapes) shapes, empty (b .transforms) transforms) a

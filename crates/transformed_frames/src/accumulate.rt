@@ -102,22 +102,6 @@ pub fn accumulate(
 ) -> u32
     ensures { λ r. ⌜ Accumulated (transformedFramesCall (length (now (hessian .entry))) (length (now (gradient .entry))) (record { work = work dof (now (frames .entry)) (now (fixed .entry)) sigma (now (actions .entry)) (now (decomposition .entry)) (now (map .entry)); shapes = now (shapes .entry); transforms = now (transforms .entry) })) (now (hessian .entry)) (now (gradient .entry)) (now (cost .entry)) r (now (hessian .exit)) (now (gradient .exit)) (now (cost .exit)) ⌝ }
 {
-    if shapes.len() == 0 {
-        if transforms.len() == 0 {
-            return plane_moments::accumulate::accumulate(
-                dof,
-                frames,
-                fixed,
-                sigma,
-                actions,
-                decomposition,
-                map,
-                hessian,
-                gradient,
-                cost,
-            );
-        }
-    }
     let m = hessian.len();
     let n = gradient.len();
     let why = refusal(

@@ -9,7 +9,7 @@ use point_moments::scatter::Centred;
 ghost use mathlib.Core.Path.{_≡_};
 ghost use mathlib.Core.Bool.{false};
 ghost use mathlib.Core.Logic.{_⊎_};
-ghost use Prim.Native.Nat.{_+_, _*_, _≤_};
+ghost use Prim.Native.Nat.{_+_, _*_, _<_, _≤_};
 ghost use lib.ListN.{length};
 ghost use Rattle.normal_blocks.specs.Map.{exceeds};
 ghost use Rattle.point_moments.specs.Scatter.{CENTRED};
@@ -17,66 +17,61 @@ ghost use Rattle.plane_fit.specs.Fit.{frameCount, frameAt, actionAt};
 ghost use Rattle.frame_segment.specs.Frame.{blockEntry, pulledEntry};
 ghost use Rattle.frame_segment.specs.Steps.{Added, Held};
 ghost use Rattle.frame_blocks.specs.Pulls.{pullAt};
-ghost use Rattle.block_transforms.specs.Transform.{entryFrom, transformedBlock, transformedVector, widthUnder};
+ghost use Rattle.block_transforms.specs.Transform.{entryFrom, blockUnder, vectorUnder, widthUnder};
+ghost use Rattle.transform_products.specs.Rows.{rowsOf, spaced};
 ghost use Rattle.transformed_frames.specs.Frames.{There, Ready, FrameAdded, Summed, AllAdded};
 
-// Frame k's block and vector through a transform of so many rows and columns, whose numbers start at `from`, are added at row `at`.
-fn add_through(
-    h: &mut [f64],
-    g: &mut [f64],
-    n: usize,
-    at: usize,
-    rows: usize,
-    cols: usize,
-    frames: &[f64],
-    actions: &[f64],
-    k: usize,
-    normal: [f64; 3],
-    turn: [f64; 3],
-    shift: f64,
-    weight: f64,
-    transforms: &[f64],
-    from: usize,
-)
-    requires { ⌜ (rows ≤ 9) × (cols ≤ 9) × (at + cols ≤ n) × (length (now h) ≡ n * n) × (length (now g) ≡ n) × Held (now frames) (now actions) k × (from + 81 ≤ length (now transforms)) ⌝ }
-    ensures { λ _. ⌜ Added n at cols (transformedBlock rows (entryFrom (now (transforms .entry)) from rows) (blockEntry (actionAt (now (actions .entry)) k) (frameAt (now (frames .entry)) k) normal weight)) (transformedVector rows (entryFrom (now (transforms .entry)) from rows) (pulledEntry (actionAt (now (actions .entry)) k) (frameAt (now (frames .entry)) k) normal turn shift weight)) (now (h .entry)) (now (h .exit)) (now (g .entry)) (now (g .exit)) ⌝ }
+// The numbers from one row of a stored block to the next: eight of a frame of six columns, whose loops are unrolled.
+fn stride_of(dof: usize) -> usize
+    requires { ⌜ dof ≤ 9 ⌝ }
+    ensures { λ r. ⌜ (r ≤ 10) × (dof < r) ⌝ }
 {
-    let stored = frame_stored::block_of(frames, actions, k, normal, turn, shift, weight, rows);
-    let m = stored.block;
-    let v = stored.vector;
-    let through = transform_products::apply(transforms, from, rows, cols, &m, &v);
-    let block = through.block;
-    let vector = through.vector;
-    normal_blocks::target::add_block(h, n, at, cols, &block, 9);
-    normal_blocks::target::add_run(g, at, &vector, 0, cols);
+    if dof == 6 {
+        return 8;
+    }
+    10
 }
 
-// The same without a transform.
+// A stored block and vector are added at row `at`, through the transform of word k if it has one.
 fn add_stored(
     h: &mut [f64],
     g: &mut [f64],
     n: usize,
     at: usize,
     dof: usize,
-    frames: &[f64],
-    actions: &[f64],
+    s: Shape,
+    transforms: &[f64],
     k: usize,
-    normal: [f64; 3],
-    turn: [f64; 3],
-    shift: f64,
-    weight: f64,
+    m: &[f64; 90],
+    stride: usize,
+    u: &mut [f64; 90],
 )
-    requires { ⌜ (dof ≤ 9) × (at + dof ≤ n) × (length (now h) ≡ n * n) × (length (now g) ≡ n) × Held (now frames) (now actions) k ⌝ }
-    ensures { λ _. ⌜ Added n at dof (blockEntry (actionAt (now (actions .entry)) k) (frameAt (now (frames .entry)) k) normal weight) (pulledEntry (actionAt (now (actions .entry)) k) (frameAt (now (frames .entry)) k) normal turn shift weight) (now (h .entry)) (now (h .exit)) (now (g .entry)) (now (g .exit)) ⌝ }
+    requires { ⌜ (dof ≤ 9) × (stride ≤ 10) × (dof < stride) × (at + widthUnder s dof ≤ n) × (length (now h) ≡ n * n) × (length (now g) ≡ n) × (length (now u) ≡ 90) × There dof k s (now transforms) ⌝ }
+    ensures { λ _. ⌜ Added n at (widthUnder s dof) (blockUnder s (entryFrom (now (transforms .entry)) (81 * k)) (rowsOf stride (now (m .entry)))) (vectorUnder s (entryFrom (now (transforms .entry)) (81 * k)) (spaced stride (now (m .entry)) dof)) (now (h .entry)) (now (h .exit)) (now (g .entry)) (now (g .exit)) × (length (now (u .exit)) ≡ 90) ⌝ }
 {
-    let stored = frame_stored::block_of(frames, actions, k, normal, turn, shift, weight, dof);
-    let m = stored.block;
-    let v = stored.vector;
-    normal_blocks::target::add_block(h, n, at, dof, &m, 9);
-    normal_blocks::target::add_run(g, at, &v, 0, dof);
+    match s {
+        Shape::Absent => {
+            transform_products::add_rows(h, g, n, at, m, stride, dof);
+        }
+        Shape::Sized(rows, cols) => {
+            transform_products::add_through(
+                h,
+                g,
+                n,
+                at,
+                transforms,
+                TRANSFORM * k,
+                rows,
+                cols,
+                m,
+                stride,
+                u,
+            );
+        }
+    }
 }
 
-// A frame is added where it goes, if it goes anywhere.
+// A frame is added where it goes, if it goes anywhere. m and u are room for its numbers.
 fn add_frame(
     h: &mut [f64],
     g: &mut [f64],
@@ -90,52 +85,30 @@ fn add_frame(
     pull: Pull,
     weight: f64,
     transforms: &[f64],
+    m: &mut [f64; 90],
+    u: &mut [f64; 90],
 )
-    requires { ⌜ (dof ≤ 9) × (exceeds (length (now g)) (widthUnder s dof) p ≡ false) × (length (now h) ≡ length (now g) * length (now g)) × Held (now frames) (now actions) k × There dof k s (now transforms) ⌝ }
-    ensures { λ _. ⌜ FrameAdded (length (now (g .entry))) dof s (entryFrom (now (transforms .entry)) (81 * k)) p (blockEntry (actionAt (now (actions .entry)) k) (frameAt (now (frames .entry)) k) normal weight) (pulledEntry (actionAt (now (actions .entry)) k) (frameAt (now (frames .entry)) k) normal (pull .turn) (pull .shift) weight) (now (h .entry)) (now (h .exit)) (now (g .entry)) (now (g .exit)) ⌝ }
+    requires { ⌜ (dof ≤ 9) × (exceeds (length (now g)) (widthUnder s dof) p ≡ false) × (length (now h) ≡ length (now g) * length (now g)) × Held (now frames) (now actions) k × There dof k s (now transforms) × (length (now m) ≡ 90) × (length (now u) ≡ 90) ⌝ }
+    ensures { λ _. ⌜ FrameAdded (length (now (g .entry))) dof s (entryFrom (now (transforms .entry)) (81 * k)) p (blockEntry (actionAt (now (actions .entry)) k) (frameAt (now (frames .entry)) k) normal weight) (pulledEntry (actionAt (now (actions .entry)) k) (frameAt (now (frames .entry)) k) normal (pull .turn) (pull .shift) weight) (now (h .entry)) (now (h .exit)) (now (g .entry)) (now (g .exit)) × (length (now (m .exit)) ≡ 90) × (length (now (u .exit)) ≡ 90) ⌝ }
 {
     let n = g.len();
     let turn = pull.turn;
-    let shift = pull.shift;
+    let stride = stride_of(dof);
     match p {
         Place::At(at) => {
-            match s {
-                Shape::Absent => {
-                    add_stored(
-                        h,
-                        g,
-                        n,
-                        at,
-                        dof,
-                        frames,
-                        actions,
-                        k,
-                        normal,
-                        turn,
-                        shift,
-                        weight,
-                    );
-                }
-                Shape::Sized(rows, cols) => {
-                    add_through(
-                        h,
-                        g,
-                        n,
-                        at,
-                        rows,
-                        cols,
-                        frames,
-                        actions,
-                        k,
-                        normal,
-                        turn,
-                        shift,
-                        weight,
-                        transforms,
-                        TRANSFORM * k,
-                    );
-                }
-            }
+            frame_stored::store(
+                frames,
+                actions,
+                k,
+                normal,
+                turn,
+                pull.shift,
+                weight,
+                dof,
+                stride,
+                m,
+            );
+            add_stored(h, g, n, at, dof, s, transforms, k, m, stride, u);
         }
         Place::Unmapped => {}
     }
@@ -177,6 +150,8 @@ fn add_frames(
     ensures { λ r. ⌜ Summed (length (now (g .entry))) dof (now (frames .entry)) (now (actions .entry)) (now (map .entry)) (now (shapes .entry)) (now (transforms .entry)) normal offset weight count r (now (h .entry)) (now (h .exit)) (now (g .entry)) (now (g .exit)) ⌝ }
 {
     let mut sum = 0.0;
+    let mut m = [0.0; 90];
+    let mut u = [0.0; 90];
     for k in 0..count {
         let p = pull_at(frames, actions, k, normal, offset, weight);
         let place = normal_blocks::lookup(map, k);
@@ -194,6 +169,8 @@ fn add_frames(
             p,
             weight,
             transforms,
+            &mut m,
+            &mut u,
         );
         sum = sum + p.cost;
     }

@@ -1,31 +1,35 @@
 -- Laws of a match list that is added through the transform of word 0. Assumes nothing.
-use Prim.Native.Nat.{ℕ}
+use Prim.Native.Nat.{ℕ, _+_}
 use native.Mathlib.Nat.{zero-add}
 use native.Mathlib.Omega.{arith}
-use mathlib.Core.Path.{_≡_, ap, _∙_}
+use mathlib.Core.Path.{_≡_, refl, ap, _∙_}
 use mathlib.Core.List.{List}
 use lib.ListN.{length}
 use lib.Ieee.{Float}
-use Rattle.terms.specs.Terms.{addAll}
+use borrow.Author.Tests.{lt-ltb, le-ltb}
+use Rattle.lists.specs.Part.{_!_}
+use Rattle.terms.specs.Terms.{addAll, segment, block}
+use Rattle.terms.specs.Laws.{block-same, segment-same}
 use Rattle.normal_blocks.specs.Map.{lookup}
 use Rattle.normal_blocks.specs.Laws.{fits}
-use Rattle.normal_blocks.specs.Target.{hessianAt, gradientAt, entryOf, numberFrom}
-use Rattle.normal_blocks.specs.TargetLaws.{hessian-same, gradient-same}
+use Rattle.normal_blocks.specs.Target.{entryOf, numberFrom}
+use Rattle.normal_blocks.specs.TargetLaws.{hessian-mapped, gradient-mapped, hessian-unmapped, gradient-unmapped, hessian-same, gradient-same}
 use Rattle.normal_blocks.specs.declared.Place.{Place}
+use Rattle.normal_blocks.specs.declared.Place.the-variants.{At, Unmapped}
 use Rattle.match_sums.specs.declared.MatchSums.{MatchSums}
 use Rattle.match_sums.specs.Sums.{SumsAre}
 use Rattle.match_sums.specs.Groups.{listCost, listBlock, listVector}
 use Rattle.call_lists.specs.Accumulated.{Accumulated}
 use Rattle.call_lists.specs.Frames.{frameHessian, frameGradient}
-use Rattle.block_transforms.specs.Transform.{Beside, shapeAt, entryFrom, transformedBlock, transformedVector, widthAt}
-use Rattle.block_transforms.proofs.Laws.{transform-fits, every-fits, block-through, vector-through, transform-there}
+use Rattle.block_transforms.specs.Transform.{Beside, shapeAt, entryFrom, widthUnder, widthAt}
+use Rattle.block_transforms.proofs.Laws.{transform-fits, every-fits, transform-there}
 use Rattle.block_transforms.specs.declared.Shape.{Shape}
 use Rattle.block_transforms.specs.declared.Shape.the-variants.{Absent, Sized}
-use Rattle.transform_products.specs.declared.Transformed.{Transformed}
-use Rattle.transform_products.specs.Nine.{Applied}
+use Rattle.transform_products.specs.Rows.{rowWith, spaced, Rows, AddedThrough}
+use Rattle.transform_products.proofs.Laws.{block-through, vector-through, Tall, under-same, under-run}
 use Rattle.map_planes.specs.Accumulate.{Work, transformedMatchesRefusal, transformedMatchesCall}
 use Rattle.map_planes.proofs.Accumulating.{accepted-list, accumulated-one}
-use Rattle.transformed_matches.specs.Steps.{Ready, ListAdded}
+use Rattle.transformed_matches.specs.Steps.{Ready, SumsAdded, ListAdded}
 
 pub ready : (m n : ℕ) (b : Beside Work) → transformedMatchesRefusal m n b ≡ 0 → Ready m n (b .work .dof) (b .work .map) (b .shapes) (b .transforms) (b .work .action)
 unfolding widthAt
@@ -43,28 +47,34 @@ ready m n b e =
           (f .narrow, f .tall, p .1);
     }
 
--- without a transform, and with one of dof rows
-module _ (n dof : ℕ) (s : Shape) (t : ℕ → ℕ → ℕ → Float) (p : Place) (x ms : List Float) (r : Float) (h h′ g g′ : List Float) where
-  pub without-shape : s ≡ Absent → r ≡ listCost x ms → h′ ≡ addAll h (hessianAt n dof p (listBlock x ms)) → g′ ≡ addAll g (gradientAt dof p (listVector x ms))
-      → ListAdded n dof s t p x ms r h h′ g g′
-  without-shape none c hs gs = rw none (record { cost = c; hessian = hs; gradient = gs })
-
-  pub with-shape : (rows cols : ℕ) → s ≡ Sized rows cols → rows ≡ dof → ListAdded n rows (Sized rows cols) t p x ms r h h′ g g′ → ListAdded n dof s t p x ms r h h′ g g′
-  with-shape rows cols sized tall added = rw sized (record { cost = added .cost; hessian = added .hessian; gradient = added .gradient })
-
--- the list's sums through a transform are the entries that the frame adds
-module _ (x ms t : List Float) (rows cols : ℕ) (s : MatchSums) (r : Transformed) (are : SumsAre x ms rows s) (done : Applied t 0 rows cols (s .block) (s .vector) r) where
-  pub block-entries : (n : ℕ) (p : Place) (h h′ : List Float) → h′ ≡ addAll h (hessianAt n cols p (entryOf 9 (r .block)))
-      → h′ ≡ addAll h (hessianAt n cols p (transformedBlock rows (entryFrom t 0 rows) (listBlock x ms)))
-  unfolding entryOf numberFrom
-  block-entries n p h h′ e =
-      e ∙ ap (addAll h) (hessian-same n cols p _ _ (λ i j li lj. done .block-is i j li lj ∙ block-through rows (entryFrom t 0 rows) _ (listBlock x ms) (are .block-is) i j))
-
-  pub vector-numbers : (p : Place) (g g′ : List Float) → g′ ≡ addAll g (gradientAt cols p (numberFrom (r .vector) 0))
-      → g′ ≡ addAll g (gradientAt cols p (transformedVector rows (entryFrom t 0 rows) (listVector x ms)))
+-- ---- a block and a vector at row `at`, without a transform, and laid by rows with one
+module _ (n at dof : ℕ) (s : Shape) (t m v h h′ g g′ : List Float) where
+  pub plain-added : s ≡ Absent → h′ ≡ addAll h (block n at dof (entryOf 9 m)) → g′ ≡ addAll g (segment at dof (numberFrom v 0)) → SumsAdded n at dof s (entryFrom t 0) m v h h′ g g′
   unfolding numberFrom
-  vector-numbers p g g′ e =
-      e ∙ ap (addAll g) (gradient-same cols p _ _ (λ i li. rw (zero-add i) (done .vector-is i li ∙ vector-through rows (entryFrom t 0 rows) _ (listVector x ms) (are .vector-is) i)))
+  plain-added none hs gs = rw none (record { hessian = hs; gradient = gs ∙ ap (addAll g) (segment-same at dof _ _ (λ i l. rw (zero-add i) refl)) })
+
+  pub laid-added : (rows cols : ℕ) (laid u : List Float) → s ≡ Sized rows cols → rows ≡ dof → Rows 10 (rows + 1) (rowWith rows (entryOf 9 m) (λ i. v ! i)) rows laid
+      → AddedThrough n at rows cols 10 t 0 laid u h h′ g g′ → SumsAdded n at dof s (entryFrom t 0) m v h h′ g g′
+  unfolding rowWith spaced
+  laid-added rows cols laid u sized tall is a =
+      rw sized (record {
+        hessian = a .hessian ∙ ap (addAll h) (block-same n at cols _ _ (λ i j li lj. block-through rows (entryFrom t 0 rows) _ (entryOf 9 m) (λ r k lr lk. is .are r k lr (omega arith) ∙ rw (lt-ltb k rows lk) refl) i j));
+        gradient = a .gradient ∙ ap (addAll g) (segment-same at cols _ _ (λ i li. vector-through rows (entryFrom t 0 rows) _ (λ r. v ! r) (λ r lr. is .are r rows lr (omega arith) ∙ rw (le-ltb rows rows (omega arith)) refl) i));
+      })
+
+-- ---- the list's sums at the place of word 0, and a list that goes nowhere
+module _ (n dof : ℕ) (s : Shape) (t : ℕ → ℕ → ℕ → Float) (p : Place) (x ms : List Float) (r : Float) (h h′ g g′ : List Float) where
+  pub list-mapped : (at : ℕ) (sums : MatchSums) → p ≡ At at → Tall dof s → SumsAre x ms dof sums → r ≡ sums .cost → SumsAdded n at dof s t (sums .block) (sums .vector) h h′ g g′
+      → ListAdded n dof s t p x ms r h h′ g g′
+  unfolding entryOf numberFrom
+  list-mapped at sums mapped tall are c a = record {
+    cost = c ∙ are .cost-is;
+    hessian = hessian-mapped (widthUnder s dof) p at mapped n _ h h′ (a .hessian) ∙ ap (addAll h) (hessian-same n (widthUnder s dof) p _ _ (under-same dof s t _ (listBlock x ms) tall (are .block-is)));
+    gradient = gradient-mapped (widthUnder s dof) p at mapped _ g g′ (a .gradient) ∙ ap (addAll g) (gradient-same (widthUnder s dof) p _ _ (under-run dof s t _ (listVector x ms) tall (are .vector-is)));
+  }
+
+pub list-unmapped : (n dof : ℕ) (s : Shape) (t : ℕ → ℕ → ℕ → Float) (p : Place) (x ms : List Float) (r : Float) (h g : List Float) → p ≡ Unmapped → r ≡ listCost x ms → ListAdded n dof s t p x ms r h h g g
+list-unmapped n dof s t p x ms r h g nowhere c = record { cost = c; hessian = hessian-unmapped _ p nowhere n _ h; gradient = gradient-unmapped _ p nowhere _ g }
 
 -- so the call has done what its contract says
 pub list-added : (m n : ℕ) (b : Beside Work) (h g : List Float) (x y : Float) (h′ g′ : List Float) → transformedMatchesRefusal m n b ≡ 0

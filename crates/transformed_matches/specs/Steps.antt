@@ -6,9 +6,10 @@ use mathlib.Core.List.{List}
 use lib.ListN.{length}
 use lib.Ieee.{Float}
 use Rattle.derivative.specs.Action.{mostDof, actionSize}
-use Rattle.terms.specs.Terms.{addAll}
+use Rattle.lists.specs.Part.{_!_}
+use Rattle.terms.specs.Terms.{addAll, segment, block}
 use Rattle.normal_blocks.specs.Map.{lookup, exceeds}
-use Rattle.normal_blocks.specs.Target.{hessianAt, gradientAt}
+use Rattle.normal_blocks.specs.Target.{hessianAt, gradientAt, entryOf}
 use Rattle.normal_blocks.specs.declared.Place.{Place}
 use Rattle.match_sums.specs.Groups.{listCost, listBlock, listVector}
 use Rattle.block_transforms.specs.Transform.{ROOM, shapeAt, blockUnder, vectorUnder, widthUnder}
@@ -16,13 +17,22 @@ use Rattle.block_transforms.specs.Reasons.{MOST_COLUMNS}
 use Rattle.block_transforms.specs.declared.Shape.{Shape}
 use Rattle.block_transforms.specs.declared.Shape.the-variants.{Sized}
 
+-- the transform of word 0 fits, and its numbers are there
+abbrev pub There : ℕ → Shape → List Float → Type 0
+There dof s transforms = (rows cols : ℕ) → s ≡ Sized rows cols → (cols ≤ MOST_COLUMNS) × (rows ≡ dof) × (ROOM ≤ length transforms)
+
 -- the list is one frame that fits, and its transform is there
 pub record Ready (m n dof : ℕ) (map shapes : List ℕ) (transforms action : List Float) : Type 0 where
   pub narrow : dof ≤ mostDof
   pub action-size : length action ≡ actionSize
   pub square : m ≡ n * n
   pub fits : exceeds n (widthUnder (shapeAt shapes 0) dof) (lookup map 0) ≡ false
-  pub there : (rows cols : ℕ) → shapeAt shapes 0 ≡ Sized rows cols → (cols ≤ MOST_COLUMNS) × (rows ≡ dof) × (ROOM ≤ length transforms)
+  pub there : There dof (shapeAt shapes 0) transforms
+
+-- a block m by columns and a vector v, of dof rows, added at row `at` under a shape s with the entries t
+pub record SumsAdded (n at dof : ℕ) (s : Shape) (t : ℕ → ℕ → ℕ → Float) (m v h h′ g g′ : List Float) : Type 0 where
+  pub hessian : h′ ≡ addAll h (block n at (widthUnder s dof) (blockUnder s t (entryOf 9 m)))
+  pub gradient : g′ ≡ addAll g (segment at (widthUnder s dof) (vectorUnder s t (λ i. v ! i)))
 
 -- the one frame added at the place p under a shape s with the entries t, and the list's cost
 pub record ListAdded (n dof : ℕ) (s : Shape) (t : ℕ → ℕ → ℕ → Float) (p : Place) (x ms : List Float) (r : Float) (h h′ g g′ : List Float) : Type 0 where

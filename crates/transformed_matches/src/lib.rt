@@ -1,51 +1,57 @@
-// Accumulating a match list through the transform of word 0.
+// Accumulating a match list, through the transform of word 0 if there is one.
 ghost use mathlib.Core.Path.{_≡_};
-ghost use Prim.Native.Nat.{_*_, _≤_};
-ghost use mathlib.Core.Bool.{false};
+ghost use Prim.Native.Nat.{_+_, _*_, _≤_};
 ghost use lib.ListN.{length};
-ghost use Rattle.derivative.specs.Action.{actionSize};
-ghost use Rattle.normal_blocks.specs.Map.{lookup, exceeds};
-ghost use Rattle.block_transforms.specs.Transform.{shapeAt, entryFrom};
-ghost use Rattle.block_transforms.specs.declared.Shape.the-variants.{Sized};
+ghost use Rattle.normal_blocks.specs.Map.{lookup};
+ghost use Rattle.block_transforms.specs.Transform.{shapeAt, entryFrom, widthUnder};
 ghost use Rattle.call_lists.specs.Accumulated.{Accumulated};
-ghost use Rattle.map_planes.specs.Accumulate.{transformedMatchesCall};
-ghost use Rattle.transformed_matches.specs.Steps.{ListAdded, Ready};
+ghost use Rattle.map_planes.specs.Accumulate.{transformedMatchesCall, matchesCall};
+ghost use Rattle.transformed_matches.specs.Steps.{There, Ready, SumsAdded, ListAdded};
 use block_transforms::Shape;
 use normal_blocks::Place;
 
-// The list's block and vector through a transform of so many rows and columns, which starts `transforms`, are added at the place of word 0. An
-// unmapped list has its cost summed alone.
-fn add_through(
-    rows: usize,
-    cols: usize,
-    list: &[f64],
-    x: &[f64],
-    map: &[u32],
+// A block by columns and a vector, of `width` rows, are added at row `at`, through the transform of word 0 if it has one.
+fn add_sums(
+    width: usize,
+    m: &[f64; 81],
+    v: &[f64; 9],
+    at: usize,
+    shapes: &[u32],
     transforms: &[f64],
     hessian: &mut [f64],
     gradient: &mut [f64],
-) -> f64
-    requires { ⌜ (rows ≤ 9) × (cols ≤ 9) × (81 ≤ length (now transforms)) × (length (now x) ≡ actionSize) × (length (now hessian) ≡ length (now gradient) * length (now gradient)) × (exceeds (length (now gradient)) cols (lookup (now map) 0) ≡ false) ⌝ }
-    ensures { λ r. ⌜ ListAdded (length (now (gradient .entry))) rows (Sized rows cols) (entryFrom (now (transforms .entry)) 0) (lookup (now (map .entry)) 0) (now (x .entry)) (now (list .entry)) r (now (hessian .entry)) (now (hessian .exit)) (now (gradient .entry)) (now (gradient .exit)) ⌝ }
+)
+    requires { ⌜ (width ≤ 9) × (at + widthUnder (shapeAt (now shapes) 0) width ≤ length (now gradient)) × (length (now hessian) ≡ length (now gradient) * length (now gradient)) × There width (shapeAt (now shapes) 0) (now transforms) × (length (now m) ≡ 81) × (length (now v) ≡ 9) ⌝ }
+    ensures { λ _. ⌜ SumsAdded (length (now (gradient .entry))) at width (shapeAt (now (shapes .entry)) 0) (entryFrom (now (transforms .entry)) 0) (now (m .entry)) (now (v .entry)) (now (hessian .entry)) (now (hessian .exit)) (now (gradient .entry)) (now (gradient .exit)) ⌝ }
 {
     let n = gradient.len();
-    match normal_blocks::lookup(map, 0) {
-        Place::At(offset) => {
-            let sums = match_sums::match_sums(list, x, rows);
-            let m = sums.block;
-            let v = sums.vector;
-            let through = transform_products::apply(transforms, 0, rows, cols, &m, &v);
-            let block = through.block;
-            let vector = through.vector;
-            normal_blocks::target::add_block(hessian, n, offset, cols, &block, 9);
-            normal_blocks::target::add_run(gradient, offset, &vector, 0, cols);
-            sums.cost
+    match block_transforms::shape_at(shapes, 0) {
+        Shape::Absent => {
+            normal_blocks::target::add_block(hessian, n, at, width, m, 9);
+            normal_blocks::target::add_run(gradient, at, v, 0, width);
         }
-        Place::Unmapped => match_sums::cost(list, x),
+        Shape::Sized(rows, cols) => {
+            let mut laid = [0.0; 90];
+            let mut u = [0.0; 90];
+            transform_products::lay(m, v, rows, &mut laid);
+            transform_products::add_other(
+                hessian,
+                gradient,
+                n,
+                at,
+                transforms,
+                0,
+                rows,
+                cols,
+                &laid,
+                10,
+                &mut u,
+            );
+        }
     }
 }
 
-// The same where there may be no transform.
+// The list's block and vector are added at the place of word 0. An unmapped list has its cost summed alone.
 fn add_list(
     width: usize,
     list: &[f64],
@@ -59,11 +65,15 @@ fn add_list(
     requires { ⌜ Ready (length (now hessian)) (length (now gradient)) width (now map) (now shapes) (now transforms) (now x) ⌝ }
     ensures { λ r. ⌜ ListAdded (length (now (gradient .entry))) width (shapeAt (now (shapes .entry)) 0) (entryFrom (now (transforms .entry)) 0) (lookup (now (map .entry)) 0) (now (x .entry)) (now (list .entry)) r (now (hessian .entry)) (now (hessian .exit)) (now (gradient .entry)) (now (gradient .exit)) ⌝ }
 {
-    match block_transforms::shape_at(shapes, 0) {
-        Shape::Absent => map_planes::add_list(width, list, x, map, hessian, gradient),
-        Shape::Sized(rows, cols) => {
-            add_through(rows, cols, list, x, map, transforms, hessian, gradient)
+    match normal_blocks::lookup(map, 0) {
+        Place::At(at) => {
+            let sums = match_sums::match_sums(list, x, width);
+            let m = sums.block;
+            let v = sums.vector;
+            add_sums(width, &m, &v, at, shapes, transforms, hessian, gradient);
+            sums.cost
         }
+        Place::Unmapped => match_sums::cost(list, x),
     }
 }
 
@@ -105,4 +115,29 @@ pub fn accumulate(
         gradient,
     );
     0
+}
+
+// The host's call without transforms: the same with empty slices.
+pub fn accumulate_plain(
+    dof: u32,
+    matches: &[f64],
+    action: &[f64],
+    map: &[u32],
+    hessian: &mut [f64],
+    gradient: &mut [f64],
+    cost: &mut f64,
+) -> u32
+    ensures { λ r. ⌜ Accumulated (matchesCall (length (now (hessian .entry))) (length (now (gradient .entry))) (record { dof = dof; matches = now (matches .entry); action = now (action .entry); map = now (map .entry) })) (now (hessian .entry)) (now (gradient .entry)) (now (cost .entry)) r (now (hessian .exit)) (now (gradient .exit)) (now (cost .exit)) ⌝ }
+{
+    accumulate(
+        dof,
+        matches,
+        action,
+        map,
+        &map[0..0],
+        &matches[0..0],
+        hessian,
+        gradient,
+        cost,
+    )
 }

@@ -1,5 +1,6 @@
 -- `transformed_matches::accumulate` meets its contract: the tests in their order, then one frame added. Assumes nothing.
-use mathlib.Core.Path.{sym, ap₂, _∙_}
+use mathlib.Core.Path.{_≡_, sym, ap₂, _∙_}
+use native.Mathlib.Omega.{arith}
 use mathlib.Core.Bool.{_||_}
 use borrow.Author.Needs.{needs}
 use Rattle.map_planes.proofs.Accumulating.{list-refuses, map-decides, accumulated-no}
@@ -17,15 +18,16 @@ returns-2 c =
     let m = c .before in
     let l = m .before .before in
     accumulated-no _ _ _ _ _ _ _
-    (m .through-refusal .ensures ∙ sym (map-decides _ _ _ _ _ (ap₂ _||_ (l .before .before .bad-target .ensures) (l .before .bad-beside .ensures)) (l .matches-refusal .ensures) (m .before .if1 .left))) (c .if2 .taken)
+    (m .through-refusal .ensures ∙ sym (map-decides _ _ _ _ _ (ap₂ _||_ (l .before .before .bad-target .ensures) (l .before .bad-beside .ensures)) (l .matches-refusal .ensures) (m .before .if1 .left))) (λ z. omega arith)
 
 add-list-requires : tie.Need-add-list-requires
 add-list-requires c κs =
     let past = c .before .before in
     let m = past .before in
     let l = m .before .before in
+    let none : m .through-refusal .result ≡ 0 = omega arith in
     ready _ _ (record { work = record { dof = _; matches = _; action = _; map = _ }; shapes = _; transforms = _ })
-    (map-decides _ _ _ _ _ (ap₂ _||_ (l .before .before .bad-target .ensures) (l .before .bad-beside .ensures)) (l .matches-refusal .ensures) (m .before .if1 .left) ∙ sym (m .through-refusal .ensures) ∙ past .if2 .left)
+    (map-decides _ _ _ _ _ (ap₂ _||_ (l .before .before .bad-target .ensures) (l .before .bad-beside .ensures)) (l .matches-refusal .ensures) (m .before .if1 .left) ∙ sym (m .through-refusal .ensures) ∙ none)
 
 returns-3 : tie.Need-returns-3
 returns-3 c =
@@ -33,8 +35,9 @@ returns-3 c =
     let past = added .before .before .before in
     let m = past .before in
     let l = m .before .before in
+    let none : m .through-refusal .result ≡ 0 = omega arith in
     list-added _ _ _ _ _ _ _ _ _
-    (map-decides _ _ _ _ _ (ap₂ _||_ (l .before .before .bad-target .ensures) (l .before .bad-beside .ensures)) (l .matches-refusal .ensures) (m .before .if1 .left) ∙ sym (m .through-refusal .ensures) ∙ past .if2 .left)
+    (map-decides _ _ _ _ _ (ap₂ _||_ (l .before .before .bad-target .ensures) (l .before .bad-beside .ensures)) (l .matches-refusal .ensures) (m .before .if1 .left) ∙ sym (m .through-refusal .ensures) ∙ none)
     (added .add-list .ensures)
 
 pub accumulate-spec : {M : Type 1} → statement M

@@ -1,35 +1,30 @@
--- `transformed_matches::add_list` meets its contract: with a transform of word 0, and without. Assumes nothing.
-use mathlib.Core.Path.{sym, _∙_}
-use native.Mathlib.Omega.{arith}
+-- `transformed_matches::add_list` meets its contract: block and vector at the place of word 0, or the cost alone. Assumes nothing.
+use mathlib.Core.Path.{refl, sym, _∙_}
 use borrow.Author.Needs.{needs}
-use Rattle.transformed_matches.proofs.Laws.{without-shape, with-shape}
+use Rattle.normal_blocks.specs.Laws.{fits-at}
+use Rattle.transformed_matches.proofs.Laws.{list-mapped, list-unmapped}
 use Rattle.transformed_matches.proofs.add_list.Statement.{statement}
 use Rattle.transformed_matches.proofs.add_list.Tie as tie
 
-add-list-requires : tie.Need-add-list-requires
-add-list-requires c κs =
-    let none = sym (c .before .before .before .before .shape-at .ensures) ∙ c .before .before .enum-told .given .1 in
-    let pre = c .before .before .before .before .before .before .before .before .before .before .before .before .pre in
-    (pre .narrow, pre .action-size, pre .square, rw none at (pre .fits))
-
-add-through-requires : tie.Need-add-through-requires
-add-through-requires c κs =
-    let sized = sym (c .before .before .before .before .before .shape-at .ensures) ∙ c .before .before .before .rows .given .1 in
-    let pre = c .before .before .before .before .before .before .before .before .before .before .before .before .before .pre in
-    let there = pre .there _ _ sized in
-    (omega (arith, there .1, pre .narrow), there .0, there .2, pre .action-size, pre .square, rw sized at (pre .fits))
+add-sums-requires : tie.Need-add-sums-requires
+add-sums-requires c κs =
+    let sums = c .before .before .before .before .before .before in
+    let placed = sums .before .before in
+    let pre = placed .before .before .before .before .before .before .before .before .before .before .pre in
+    let at = sym (placed .before .before .lookup .ensures) ∙ placed .at .given .1 in
+    let are = sums .match-sums .ensures in
+    (pre .narrow, fits-at _ _ _ _ at (pre .fits), pre .square, pre .there, are .block-size, are .vector-size)
 
 returns : tie.Need-returns
 returns c =
-    let none = sym (c .before .before .before .before .before .before .before .before .before .shape-at .ensures) ∙ c .before .before .before .before .before .before .before .enum-told .given .1 in
-    let did = c .before .before .before .before .add-list .ensures in
-    without-shape _ _ _ _ _ _ _ _ _ _ _ _ none (did .0) (did .1) (did .2)
+    let added = c .before .before .before .before in
+    let sums = added .before .before .before .before .before .before .before in
+    let placed = sums .before .before in
+    let at = sym (placed .before .before .lookup .ensures) ∙ placed .at .given .1 in
+    list-mapped _ _ _ _ _ _ _ _ _ _ _ _ _ _ at (λ rows cols sized. placed .before .before .before .before .before .before .before .before .before .before .pre .there rows cols sized .1) (sums .match-sums .ensures) refl (added .add-sums .ensures)
 
 returns-2 : tie.Need-returns-2
-returns-2 c =
-    let sized = sym (c .before .before .before .before .before .before .before .before .before .before .shape-at .ensures) ∙ c .before .before .before .before .before .before .before .before .rows .given .1 in
-    let there = c .before .before .before .before .before .before .before .before .before .before .before .before .before .before .before .before .before .before .pre .there _ _ sized in
-    with-shape _ _ _ _ _ _ _ _ _ _ _ _ _ _ sized (there .1) (c .before .before .before .before .add-through .ensures)
+returns-2 c = list-unmapped _ _ _ _ _ _ _ _ _ _ (sym (c .before .before .before .lookup .ensures) ∙ c .before .enum-told .given .1) (c .cost .ensures)
 
 pub add-list-spec : {M : Type 1} → statement M
 add-list-spec =
@@ -37,12 +32,11 @@ add-list-spec =
     (tie.spec
     (λ c κs. tt)
     (λ c. search needs)
-    add-list-requires
+    (λ c κs. search needs)
+    add-sums-requires
     (λ c. search needs)
-    add-through-requires
+    (λ c κs. search needs)
     (λ c. search needs)
     (λ c. search needs)
     returns
-    (λ c. search needs)
-    (λ c. search needs)
     returns-2)

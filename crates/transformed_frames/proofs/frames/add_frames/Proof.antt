@@ -11,14 +11,14 @@ use Rattle.transformed_frames.proofs.frames.add_frames.Statement.{state
 use Rattle.transformed_frames.proofs.frames.add_frames.Tie as tie
 
 abbrev Inv-loop : tie.InvT-loop
-Inv-loop h₀ g₀ dof frames actions map shapes transforms normal offset weight count sum₀ k₀ h g sum k =
-    (k ≤ count) × (length h ≡ length h₀) × (length g ≡ length g₀) × Summed (length g₀) dof frames actions map shapes transforms normal offset weight k sum h₀ h g₀ g
+Inv-loop h₀ g₀ dof frames actions map shapes transforms normal offset weight count sum₀ m₀ u₀ k₀ h g sum m u k =
+    (k ≤ count) × (length h ≡ length h₀) × (length g ≡ length g₀) × (length m ≡ 90) × (length u ≡ 90) × Summed (length g₀) dof frames actions map shapes transforms normal offset weight k sum h₀ h g₀ g
 
 abbrev μ-loop : tie.MeasureT-loop
-μ-loop h₀ g₀ dof frames actions map shapes transforms normal offset weight count sum₀ k₀ h g sum k = count - k
+μ-loop h₀ g₀ dof frames actions map shapes transforms normal offset weight count sum₀ m₀ u₀ k₀ h g sum m u k = count - k
 
 loop-holds : tie.Need-loop-holds Inv-loop μ-loop
-loop-holds c = (search needs, refl, refl, first-none _ _ _ _ _ _)
+loop-holds c = (search needs, refl, refl, refl, refl, first-none _ _ _ _ _ _)
 
 pull-at-requires : tie.Need-pull-at-requires Inv-loop μ-loop
 pull-at-requires c κs =
@@ -27,30 +27,38 @@ pull-at-requires c κs =
 
 add-frame-requires : tie.Need-add-frame-requires Inv-loop μ-loop
 add-frame-requires c κs =
-    let l = c .before .before .before .before .before .before .loop in
-    let ready = c .before .before .before .before .before .before .before .before .before .before .before .before .before .before .pre .1 in (
+    let shaped = c .before .before .before .before in
+    let l = shaped .before .before .before .before .loop in
+    let pre = shaped .before .before .before .before .before .before .before .before .before .before .before .before .pre in
+    let ready = pre .1 in
+    let here = shaped .before .before .before .loop-test .taken in (
       ready .narrow,
-      ready-fits _ _ _ _ _ _ _ _ ready _ _ _ _ (l .inv .2) (c .before .before .before .lookup .ensures) (c .before .before .shape-at .ensures) (omega arith),
+      ready-fits _ _ _ _ _ _ _ _ ready _ _ _ _ (l .inv .2) (shaped .before .lookup .ensures) (shaped .shape-at .ensures) (omega (arith, here, pre .0)),
       ready-square _ _ _ _ _ _ _ _ ready _ _ (l .inv .1) (l .inv .2),
-      ready-held _ _ _ _ _ _ _ _ ready _ (omega arith),
-      ready-there _ _ _ _ _ _ _ _ ready _ _ (c .before .before .shape-at .ensures),
+      ready-held _ _ _ _ _ _ _ _ ready _ (omega (arith, here, pre .0)),
+      ready-there _ _ _ _ _ _ _ _ ready _ _ (shaped .shape-at .ensures),
+      l .inv .3,
+      l .inv .4,
     )
 
 loop-again : tie.Need-loop-again Inv-loop μ-loop
 loop-again c =
     let added = c .before .before .before .before .before in
-    let l = c .before .before .before .before .before .before .before .before .before .before .before .before .loop in (
+    let shaped = added .before .before .before .before .before in
+    let l = shaped .before .before .before .before .loop in (
       search needs,
       added .add-frame .kept .0 ∙ l .inv .1,
       added .add-frame .kept .1 .0 ∙ l .inv .2,
-      summed-more _ _ _ _ _ _ _ _ _ _ (l .k) _ _ _ _ (l .sum) _ (l .h) _ _ (l .g) _ (l .inv .2) (c .before .before .before .before .before .before .before .before .before .lookup .ensures) (c .before .before .before .before .before .before .before .before .shape-at .ensures) (c .before .before .before .before .before .before .before .before .before .before .pull-at .ensures) (added .add-frame .ensures) (l .inv .3),
+      added .add-frame .ensures .1,
+      added .add-frame .ensures .2,
+      summed-more _ _ _ _ _ _ _ _ _ _ (l .k) _ _ _ _ (l .sum) _ (l .h) _ _ (l .g) _ (l .inv .2) (shaped .before .lookup .ensures) (shaped .shape-at .ensures) (shaped .before .before .pull-at .ensures) (added .add-frame .ensures .0) (l .inv .5),
     )
 
 returns : tie.Need-returns Inv-loop μ-loop
 returns c =
     let l = c .before .loop in
     let e : l .k ≡ c .before .before .before .before .before .before .before .before .before .args .count = omega arith in
-    rw e at (l .inv .3)
+    rw e at (l .inv .5)
 
 pub add-frames-spec : {M : Type 1} → statement M
 add-frames-spec =
@@ -63,7 +71,7 @@ add-frames-spec =
     (λ c κs. tt)
     (λ c κs. tt)
     add-frame-requires
-    (λ c. omega (arith, c .before .before .before .before .before .before .before .before .before .before .before .loop-test .taken, c .before .before .before .before .before .before .before .before .before .before .before .before .before .before .before .before .before .before .before .before .fits .count))
+    (λ c. omega (arith, c .before .before .before .before .before .before .before .before .before .before .before .before .before .loop-test .taken, c .before .before .before .before .before .before .before .before .before .before .before .before .before .before .before .before .before .before .before .before .before .before .fits .count))
     (λ c. search needs)
     loop-again
     (λ c. search needs)

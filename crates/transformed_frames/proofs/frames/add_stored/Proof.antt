@@ -1,39 +1,51 @@
--- `transformed_frames::frames::add_stored` meets its contract: the frame's numbers at its row. Assumes nothing.
+-- `transformed_frames::frames::add_stored` meets its contract: the numbers as they stand, or through the transform. Assumes nothing.
 use native.Mathlib.Omega.{arith}
 use borrow.Author.Needs.{needs}
-use Rattle.frame_segment.specs.Steps.{inside}
-use Rattle.transformed_frames.proofs.Laws.{stored-added}
+use Rattle.transform_products.proofs.Laws.{there-room}
+use Rattle.transformed_frames.proofs.Laws.{rows-added, through-added}
 use Rattle.transformed_frames.proofs.frames.add_stored.Statement.{statement}
 use Rattle.transformed_frames.proofs.frames.add_stored.Tie as tie
 
-block-of-requires : tie.Need-block-of-requires
-block-of-requires c κs = (c .before .before .before .before .pre .0, c .before .before .before .before .pre .4)
+add-rows-requires : tie.Need-add-rows-requires
+add-rows-requires c κs =
+    let pre = c .before .before .before .before .before .before .before .pre in
+    (pre .0, pre .1, pre .2, rw (c .before .before .enum-told .given .1) at (pre .3), pre .4, pre .5)
 
-add-block-requires : tie.Need-add-block-requires
-add-block-requires c κs =
-    let pre = c .before .before .before .before .before .before .before .before .before .pre in
-    (pre .1, pre .2, pre .0, omega (arith, c .before .before .before .before .block-of .ensures .block-size, pre .0))
+mul-add-through : tie.Need-mul-add-through
+mul-add-through c = omega (arith, c .before .before .before .before .before .before .before .before .pre .7 _ _ (c .before .before .before .s .given .1) .2)
 
-add-run-requires : tie.Need-add-run-requires
-add-run-requires c κs =
-    let pre = c .before .before .before .before .before .before .before .before .before .before .before .before .before .before .pre in
-    (inside (pre .1) (pre .3), omega (arith, c .before .before .before .before .before .before .before .before .before .block-of .ensures .vector-size, pre .0))
+add-through-requires : tie.Need-add-through-requires
+add-through-requires c κs =
+    let told = c .before .before .before .before in
+    let pre = told .before .before .before .before .before .pre in
+    let sized = told .s .given .1 in
+    let there = pre .7 _ _ sized in
+    (omega (arith, there .1, pre .0), there .0, pre .1, omega (arith, there .1, pre .2), there-room _ _ _ _ _ (pre .0) (there .0) (there .1) (there .2), rw sized at (pre .3), pre .4, pre .5, pre .6)
 
 returns : tie.Need-returns
 returns c =
-    let run = c .before .before in
-    let added = run .before .before .before .before .before in
-    stored-added _ _ _ _ _ _ _ _ (added .before .before .before .before .before .block-of .ensures) _ _ _ _ _ _ (added .add-block .ensures) (run .add-run .ensures)
+    let added = c .before .before .before .before in
+    (rows-added _ _ _ _ _ _ _ _ _ _ _ _ (added .before .before .before .enum-told .given .1) (added .add-rows .ensures), added .before .before .before .before .before .before .before .before .pre .6)
+
+returns-2 : tie.Need-returns-2
+returns-2 c =
+    let added = c .before .before .before .before in
+    let told = added .before .before .before .before .before in
+    let sized = told .s .given .1 in
+    (through-added _ _ _ _ _ _ _ _ _ _ _ _ _ _ _ sized (told .before .before .before .before .before .pre .7 _ _ sized .1) (added .add-through .ensures), added .add-through .ensures .room)
 
 pub add-stored-spec : {M : Type 1} → statement M
 add-stored-spec =
     tie.close
     (tie.spec
-    block-of-requires
     (λ c. search needs)
-    add-block-requires
+    add-rows-requires
     (λ c. search needs)
-    add-run-requires
+    mul-add-through
+    add-through-requires
     (λ c. search needs)
     (λ c. search needs)
-    returns)
+    returns
+    (λ c. search needs)
+    (λ c. search needs)
+    returns-2)
