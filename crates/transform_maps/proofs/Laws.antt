@@ -1,21 +1,23 @@
--- Laws of the multiplying call: a word that is written, a transform that is made, and what is known where the call is accepted. Assumes nothing.
+-- Laws of the multiplying call: what is copied and replaced, a transform that is made, and what is known where the call is accepted. Assumes nothing.
 use Prim.Native.Nat.{ℕ, zero, suc, _+_, _*_, _-_, _≤_, _<_}
-use native.Mathlib.Nat.{mul-comm, zero-add, add-zero, zero-mul, suc-mul, not-suc-le-zero, le-of-suc-le-suc}
+use native.Mathlib.Nat.{zero-add, add-zero, zero-mul, suc-mul, not-suc-le-zero, le-of-suc-le-suc, mul-le-mul-right, mul-comm}
 use native.Mathlib.Numerals.{add-one}
 use native.Mathlib.Omega.{arith}
-use mathlib.Core.Path.{_≡_, refl, sym, ap, _∙_}
-use mathlib.Core.Bool.{Bool, true, false, not, _||_, cond}
-use mathlib.Core.List.{List, [], _∷_, _++_, append-assoc}
+use mathlib.Core.Path.{_≡_, refl, sym, ap, ap₂, _∙_}
+use mathlib.Core.Logic.{_⊎_, ⊎-elim}
+use mathlib.Core.Bool.{Bool, true, false, not, _||_}
+use mathlib.Core.List.{List, [], _∷_, _++_, append-assoc, append-nil}
 use lib.Dec.{eqb, ltb}
-use lib.ListN.{length, getD, set, take, drop, List·getD-eq-default, length-append, replicate, length-replicate, replicate-append-replicate}
-use lib.Seq.{sets-eq, take-at, drop-append-add}
+use lib.ListN.{length, getD, set, take, drop, take-append-drop, drop-of-length-le, List·getD-eq-default, length-append, length-drop, replicate, length-replicate, getD-replicate, replicate-append-replicate}
+use lib.Seq.{ext-getD, sets-eq, drop-drop, take-at, take-all, take-add, take-suc, take-suc-set, length-take-le, drop-append-add}
 use lib.Ieee.{Float, nan}
-use borrow.Author.Tests.{ltb-false, eqb-true, not-false}
-use Rattle.sums.specs.Sum.{_⊗_, zeroF, sumTo, tab, grid}
-use Rattle.sums.specs.Laws.{length-tab, tab-same, tab-getD, getD-tab, sumTo-same, length-grid, grid-column}
-use Rattle.sums.specs.Fill.{written, padded, column-ends}
+use borrow.Author.Tests.{ltb-false, eqb-true, not-false, lt-ltb, le-ltb}
+use Rattle.sums.specs.Sum.{_⊕_, _⊗_, zeroF, tab, grid}
+use Rattle.sums.specs.Laws.{length-tab, tab-same, getD-tab, off-add, sumTo-more, length-grid, grid-column}
+use Rattle.sums.specs.Fill.{written, written-same, padded, column-ends}
+use Rattle.lists.specs.Part.{_!_, part}
 use Rattle.refusals.specs.Refusal.{none, either-none}
-use Rattle.terms.specs.Terms.{cellOf, upto}
+use Rattle.terms.specs.Terms.{cellOf}
 use Rattle.terms.specs.Places.{grid-of-cells}
 use Rattle.normal_blocks.specs.Somewhere.{nowhere-at}
 use Rattle.normal_blocks.specs.Map.{badWords}
@@ -27,96 +29,94 @@ use Rattle.block_transforms.specs.Reasons.{badBeside, MOST_COLUMNS, misfit}
 use Rattle.block_transforms.proofs.Laws.{Fits, transform-fits, transform-there, room}
 use Rattle.block_transforms.specs.declared.Shape.{Shape}
 use Rattle.block_transforms.specs.declared.Shape.the-variants.{Absent, Sized}
-use Rattle.transform_maps.specs.Multiply.{Work, furtherOf, oldOf, badSlices, tooWide, wideAt, someWide, unchained, badFurther, transformRefusal, newlyMade, chained, madeColumns, madeOf, partOr, shapeBefore, numbersBefore, shapeAfter, numbersAfter, newShapes, newTransforms}
+use Rattle.transform_maps.specs.Multiply.{Work, furtherOf, oldOf, badSlices, tooWide, wideAt, someWide, unchained, badFurther, transformRefusal, newlyMade, chained, madeColumns, madeOf, orElse, spliced, replaced, newShapes, newTransforms}
 
--- ---- what is read of slices that are empty or long enough
-getD-any : {A : Type 0} (l : List A) (k : ℕ) (d e : A) → k < length l → getD l k d ≡ getD l k e
-getD-any [] k d e h = absurd (not-suc-le-zero h)
-getD-any (x ∷ xs) zero d e h = refl
-getD-any (x ∷ xs) (suc k) d e h = getD-any xs k d e (le-of-suc-le-suc h)
+-- ---- a slice that is empty or long enough, read element by element
+module _ {A : Type 0} where
+  getD-any : (l : List A) (k : ℕ) (d e : A) → k < length l → getD l k d ≡ getD l k e
+  getD-any [] k d e h = absurd (not-suc-le-zero h)
+  getD-any (x ∷ xs) zero d e h = refl
+  getD-any (x ∷ xs) (suc k) d e h = getD-any xs k d e (le-of-suc-le-suc h)
 
-pub word-none : (shapes : List ℕ) (i : ℕ) → length shapes ≡ 0 → NO_TRANSFORM ≡ getD shapes i NO_TRANSFORM
-word-none shapes i e = sym (List·getD-eq-default shapes NO_TRANSFORM (omega arith))
+  pub none-there : (l : List A) (i : ℕ) (x : A) → length l ≡ 0 → x ≡ getD l i x
+  none-there l i x e = sym (List·getD-eq-default l x (omega arith))
 
-pub word-there : (shapes : List ℕ) (i : ℕ) → i < length shapes → getD shapes i 0 ≡ getD shapes i NO_TRANSFORM
-word-there shapes i h = getD-any shapes i 0 NO_TRANSFORM h
+  pub some-there : (l : List A) (i : ℕ) (d x : A) → i < length l → getD l i d ≡ getD l i x
+  some-there l i d x h = getD-any l i d x h
 
--- ---- one word of the shapes
-pub length-shape : (shapes : List ℕ) (place rows cols k : ℕ) → length (shapeAfter shapes place rows cols k) ≡ 2
-unfolding shapeAfter
-length-shape shapes place rows cols k = go (eqb k place)
-  where
-    go : (b : Bool) → length (cond b (rows ∷ cols ∷ []) (shapeBefore shapes k)) ≡ 2
-    go true = refl
-    go false = refl
+  -- the list, or n times x where it is empty
+  pub else-empty : (n : ℕ) (x : A) (l : List A) → length l ≡ 0 → replicate n x ≡ orElse n x l
+  unfolding orElse
+  else-empty n x [] e = refl
+  else-empty n x (y ∷ l) e = absurd (omega arith)
 
-pub shape-written : (shapes : List ℕ) (place rows cols k : ℕ) (out : List ℕ) (a b : ℕ) → 2 * k + 2 ≤ length out → a ≡ cond (eqb k place) rows (getD shapes (2 * k) NO_TRANSFORM)
-    → b ≡ cond (eqb k place) cols (getD shapes (2 * k + 1) NO_TRANSFORM)
-    → set (set out (2 * k) a) (2 * k + 1) b ≡ take (k * 2) out ++ (shapeAfter shapes place rows cols k ++ drop (k * 2 + 2) out)
-unfolding shapeAfter
-shape-written shapes place rows cols k out a b fit ea eb =
-    ap (λ (i : ℕ). set (set out (2 * k) a) i b) (add-one (2 * k)) ∙ sets-eq (a ∷ b ∷ []) out (2 * k) fit ∙ rw (ea, eb, mul-comm 2 k) (go (eqb k place))
-  where
-    go : (t : Bool) → (take (k * 2) out ++ (cond t rows (getD shapes (k * 2) NO_TRANSFORM) ∷ cond t cols (getD shapes (k * 2 + 1) NO_TRANSFORM) ∷ [])) ++ drop (k * 2 + 2) out
-        ≡ take (k * 2) out ++ (cond t (rows ∷ cols ∷ []) (getD shapes (k * 2) NO_TRANSFORM ∷ getD shapes (k * 2 + 1) NO_TRANSFORM ∷ []) ++ drop (k * 2 + 2) out)
-    go true = append-assoc (take (k * 2) out) _ _
-    go false = append-assoc (take (k * 2) out) _ _
+  pub else-there : (n : ℕ) (x : A) (l : List A) → (length l ≡ 0 → ⊥) → l ≡ orElse n x l
+  unfolding orElse
+  else-there n x [] e = absurd (e refl)
+  else-there n x (y ∷ l) e = refl
 
--- ---- one word of the numbers
+  pub length-else : (n : ℕ) (x : A) (l : List A) → (length l ≡ 0) ⊎ (length l ≡ n) → length (orElse n x l) ≡ n
+  unfolding orElse
+  length-else n x [] e = length-replicate n x
+  length-else n x (y ∷ l) e = ⊎-elim (λ z. absurd (omega arith)) (λ z. z) e
 
--- n numbers of a list, by what the list has
-module _ (n : ℕ) (l : List Float) where
-  length-part : (from : ℕ) → length (partOr n l from) ≡ n
-  unfolding partOr
-  length-part from = length-tab n _
+  pub else-at : (n i : ℕ) (d x : A) (l : List A) → (length l ≡ 0) ⊎ (length l ≡ n) → i < n → getD l i x ≡ getD (orElse n x l) i d
+  unfolding orElse
+  else-at n i d x [] e h = sym (getD-replicate n i x d h)
+  else-at n i d x (y ∷ l) e h = ⊎-elim (λ z. absurd (omega arith)) (λ z. getD-any (y ∷ l) i x d (omega arith)) e
 
-  zeros-part : (from : ℕ) → length l ≡ 0 → tab n (λ e. zeroF) ≡ partOr n l from
-  unfolding partOr
-  zeros-part from empty = tab-same n _ _ (λ r h. sym (List·getD-eq-default l zeroF {n = from + r} (omega arith)))
+  -- a loop that copies: one element more, and all of them
+  pub front-more : (t l : List A) (k : ℕ) (v d : A) → length l ≡ length t → k < length t → v ≡ getD t k d → take k l ≡ take k t → take (k + 1) (set l k v) ≡ take (k + 1) t
+  front-more t l k v d e h w p =
+      let n : k < length l = omega arith in
+      rw (add-one k, take-suc-set l k v n, take-suc t k d h, w, p)
 
-  inside-part : (from : ℕ) → from + n ≤ length l → tab n (numberFrom l from) ≡ partOr n l from
-  unfolding partOr numberFrom
-  inside-part from fit = tab-same n _ _ (λ r h. getD-any l (from + r) nan zeroF (omega arith))
+  pub front-all : (t l : List A) (k : ℕ) → k ≡ length t → length l ≡ length t → take k l ≡ take k t → l ≡ t
+  front-all t l k q e p = sym (take-all k l (omega arith)) ∙ p ∙ take-all k t (omega arith)
 
-  whole-part : length l ≡ n → tab n (numberFrom l 0) ≡ l
-  unfolding numberFrom
-  whole-part e = tab-same n _ _ (λ r h. ap (λ (i : ℕ). getD l i nan) (zero-add r)) ∙ tab-getD n l e
+  -- a part more
+  pub length-spliced : (size from : ℕ) (new old : List A) → from + size ≤ length old → length new ≡ size → length (spliced size from new old) ≡ length old
+  length-spliced size from new old fit e = simp (length-append, length-drop, length-take-le from old (omega arith)) (omega arith)
 
--- what is written from a place on, as a list
-written-as : (out : List Float) (n p q : ℕ) (f : ℕ → Float) (vs : List Float) → tab n f ≡ vs → p ≡ q → written out p n f ≡ take q out ++ (vs ++ drop (q + n) out)
-unfolding written
-written-as out n p q f vs e same = rw (e, same)
+  pub part-more : (t l : List A) (size from : ℕ) → from + size ≤ length t → length l ≡ length t → take from l ≡ take from t
+      → take (from + size) (spliced size from (take size (drop from t)) l) ≡ take (from + size) t
+  part-more t l size from fit e p =
+      let front = take from l ++ take size (drop from t) in
+      let long : length front ≡ from + size = simp (length-append, length-take-le from l (omega arith), length-take-le size (drop from t) (rw length-drop (omega arith))) in
+      rw (← append-assoc (take from l) (take size (drop from t)) (drop (from + size) l)) (take-at front _ (from + size) long ∙ rw (p, ← take-add from size t))
 
-module _ (numbers : List Float) (place : ℕ) (made : List Float) (size : length made ≡ ROOM) where
-  pub length-numbers : (k : ℕ) → length (numbersAfter numbers place made k) ≡ ROOM
-  unfolding numbersAfter
-  length-numbers k = go (eqb k place)
-    where
-      go : (b : Bool) → length (cond b made (numbersBefore numbers k)) ≡ ROOM
-      go true = size
-      go false = length-part ROOM numbers (ROOM * k)
+  -- a part that was lent and is back
+  pub part-back : (size from end : ℕ) (old new new′ : List A) → end ≡ from + size → new′ ≡ new → take from old ++ (new′ ++ drop (end - from) (drop from old)) ≡ spliced size from new old
+  part-back size from end old new new′ e same =
+      let n : end - from ≡ size = omega arith in
+      rw (same, n, drop-drop size from old)
 
-  after-here : (k : ℕ) → eqb k place ≡ true → made ≡ numbersAfter numbers place made k
-  unfolding numbersAfter
-  after-here k here = rw here
+  pub part-lent : (size from end : ℕ) (l : List A) → end ≡ from + size → take (end - from) (drop from l) ≡ take size (drop from l)
+  part-lent size from end l e = let n : end - from ≡ size = omega arith in rw n
 
-  after-there : (k : ℕ) → eqb k place ≡ false → numbersBefore numbers k ≡ numbersAfter numbers place made k
-  unfolding numbersAfter
-  after-there k there = rw there
+  -- and all that was left
+  pub rest-back : (from : ℕ) (t l new : List A) → length l ≡ length t → new ≡ take (length t - from) (drop from t) → take from l ≡ take from t
+      → take from l ++ (new ++ drop (length l - from) (drop from l)) ≡ t
+  rest-back from t l new size same p =
+      let all : take (length t - from) (drop from t) ≡ drop from t = take-all (length t - from) (drop from t) (rw length-drop (omega arith)) in
+      let short : length (drop from l) ≤ length l - from = rw length-drop (omega arith) in
+      let none : drop (length l - from) (drop from l) ≡ [] = drop-of-length-le (drop from l) short in
+      rw (none, append-nil, same, all, p, take-append-drop)
 
-  -- what was written is the made one, +0, or the old one
-  module _ (k : ℕ) (out out′ : List Float) where
-    pub made-written : eqb k place ≡ true → out′ ≡ written out (ROOM * k) ROOM (numberFrom made 0)
-        → out′ ≡ take (k * ROOM) out ++ (numbersAfter numbers place made k ++ drop (k * ROOM + ROOM) out)
-    made-written here e = e ∙ written-as out ROOM (ROOM * k) (k * ROOM) (numberFrom made 0) _ (whole-part ROOM made size ∙ after-here k here) (mul-comm ROOM k)
+  -- the word at the place, or none
+  module _ (words place size : ℕ) (new old : List A) where
+    pub past-end : words ≤ place → old ≡ replaced words place size new old
+    unfolding replaced
+    past-end h = rw (le-ltb place words h)
 
-    pub zeros-written : eqb k place ≡ false → length numbers ≡ 0 → out′ ≡ written out (ROOM * k) ROOM (λ e. zeroF)
-        → out′ ≡ take (k * ROOM) out ++ (numbersAfter numbers place made k ++ drop (k * ROOM + ROOM) out)
-    zeros-written there empty e = e ∙ written-as out ROOM (ROOM * k) (k * ROOM) (λ e. zeroF) _ (zeros-part ROOM numbers (ROOM * k) empty ∙ after-there k there) (mul-comm ROOM k)
+    pub at-place : place < words → spliced size (size * place) new old ≡ replaced words place size new old
+    unfolding replaced
+    at-place h = rw (lt-ltb place words h)
 
-    pub old-written : eqb k place ≡ false → ROOM * k + ROOM ≤ length numbers → out′ ≡ written out (ROOM * k) ROOM (numberFrom numbers (ROOM * k))
-        → out′ ≡ take (k * ROOM) out ++ (numbersAfter numbers place made k ++ drop (k * ROOM + ROOM) out)
-    old-written there fit e = e ∙ written-as out ROOM (ROOM * k) (k * ROOM) (numberFrom numbers (ROOM * k)) _ (inside-part ROOM numbers (ROOM * k) fit ∙ after-there k there) (mul-comm ROOM k)
+-- the two words of a shape
+pub shape-set : (place rows cols : ℕ) (out : List ℕ) → 2 * place + 2 ≤ length out → set (set out (2 * place) rows) (2 * place + 1) cols ≡ spliced 2 (2 * place) (rows ∷ cols ∷ []) out
+shape-set place rows cols out fit =
+    ap (λ (i : ℕ). set (set out (2 * place) rows) i cols) (add-one (2 * place)) ∙ sets-eq (rows ∷ cols ∷ []) out (2 * place) fit ∙ append-assoc (take (2 * place) out) _ _
 
 -- ---- what is made, column after column
 -- +0 without the first n numbers
@@ -140,6 +140,10 @@ module _ (rows : ℕ) (t : ℕ → ℕ → Float) where
       rw size at (drop-append-add front zeros rows) ∙ ap (λ (n : ℕ). drop rows (replicate n zeroF)) more ∙ fewer-zeros rows (ROOM - (c * rows + rows)) in
       wrote ∙ rw (before, take-at front zeros (c * rows) size, rest, add-one c, suc-mul, grid-column rows c t, append-assoc)
 
+-- of n sums so many are written
+pub column-written : (out : List Float) (from rows n : ℕ) (sums : List Float) (f : ℕ → Float) → rows ≤ n → sums ≡ tab n f → written out from rows (λ r. sums ! r) ≡ written out from rows f
+column-written out from rows n sums f fit e = written-same out from rows _ _ (λ r h. rw e (getD-tab n f r (omega arith)))
+
 -- a transform that is newly made has 81 numbers
 pub length-made : (rows cols : ℕ) (t : ℕ → ℕ → Float) → cols * rows ≤ ROOM → length (newlyMade rows cols t) ≡ ROOM
 unfolding newlyMade
@@ -154,15 +158,48 @@ alone-is rows cols further =
     grid-of-cells rows cols _ first (length-tab (cols * rows) _) (λ i j li lj. getD-tab (cols * rows) (λ e. getD further (0 + e) nan) (cellOf rows i j) (omega (arith, column-ends rows cols j lj))) in
     rw same
 
--- a sum of products at even steps is an entry of the product of both
-pub chained-steps : (rows inner : ℕ) (further numbers : List Float) (from r c : ℕ)
-    → sumTo inner (λ k. getD further (r + k * rows) nan ⊗ getD numbers (from + c * inner + k * 1) nan) ≡ chained inner (entryFrom further 0 rows) (entryFrom numbers from inner) r c
-unfolding chained entryFrom
-chained-steps rows inner further numbers from r c =
-    sumTo-same inner _ _ (λ k l.
-    let p : r + k * rows ≡ 0 + (k * rows + r) = omega arith in
-    let q : from + c * inner + k * 1 ≡ from + (c * inner + k) = omega arith in
-    rw (p, q))
+-- n sums over the rows of column c: without a product, of the first one, and of one more
+module _ (n rows : ℕ) (further numbers : List Float) (from inner c : ℕ) where
+  abbrev sumAt : ℕ → ℕ → Float
+  sumAt k r = chained k (entryFrom further 0 rows) (entryFrom numbers from inner) r c
+
+  part-entry : (k r at : ℕ) → r < n → at ≡ k * rows → part n further at ! r ≡ entryFrom further 0 rows r k
+  unfolding entryFrom
+  part-entry k r at h e = getD-tab n _ r h ∙ rw (off-add at r, e, zero-add)
+
+  number-entry : (k at : ℕ) → at ≡ from + (c * inner + k) → numbers ! at ≡ entryFrom numbers from inner k c
+  unfolding entryFrom
+  number-entry k at e = rw e
+
+  none-at : (r : ℕ) → zeroF ≡ sumAt 0 r
+  unfolding chained
+  none-at r = refl
+
+  first-at : (r : ℕ) → r < n → part n further 0 ! r ⊗ (numbers ! (from + c * inner)) ≡ sumAt 1 r
+  unfolding chained
+  first-at r h = ap₂ _⊗_ (part-entry 0 r 0 h (sym (zero-mul rows))) (number-entry 0 (from + c * inner) (omega arith))
+
+  more-at : (k r : ℕ) → 0 < k → r < n → sumAt k r ⊕ (part n further (rows * k) ! r) ⊗ (numbers ! (from + c * inner + k)) ≡ sumAt (k + 1) r
+  unfolding chained
+  more-at k r some h =
+      ap (λ (x : Float). sumAt k r ⊕ x) (ap₂ _⊗_ (part-entry k r (rows * k) h (mul-comm rows k)) (number-entry k (from + c * inner + k) (omega arith)))
+      ∙ sym (sumTo-more k (λ i. entryFrom further 0 rows r i ⊗ entryFrom numbers from inner i c) some)
+
+  pub sums-none : replicate n zeroF ≡ tab n (λ r. chained 0 (entryFrom further 0 rows) (entryFrom numbers from inner) r c)
+  sums-none = ext-getD nan _ _ (length-replicate n zeroF ∙ sym (length-tab n _)) (λ r h.
+      let l : r < n = rw length-replicate at h in
+      getD-replicate n r zeroF nan l ∙ none-at r ∙ sym (getD-tab n _ r l))
+
+  pub sums-first : tab n (λ i. part n further 0 ! i ⊗ (numbers ! (from + c * inner))) ≡ tab n (λ r. chained 1 (entryFrom further 0 rows) (entryFrom numbers from inner) r c)
+  sums-first = tab-same n _ _ first-at
+
+  pub sums-more : (k : ℕ) (sums : List Float) → 0 < k → sums ≡ tab n (λ r. chained k (entryFrom further 0 rows) (entryFrom numbers from inner) r c)
+      → tab n (λ i. (sums ! i) ⊕ (part n further (rows * k) ! i) ⊗ (numbers ! (from + c * inner + k))) ≡ tab n (λ r. chained (k + 1) (entryFrom further 0 rows) (entryFrom numbers from inner) r c)
+  sums-more k sums some es = tab-same n _ _ (λ r h. ap (λ (x : Float). x ⊕ (part n further (rows * k) ! r) ⊗ (numbers ! (from + c * inner + k))) (rw es (getD-tab n _ r h)) ∙ more-at k r some h)
+
+-- nine rows from a column's start on are within the 81
+pub nine-within : (rows inner k : ℕ) → rows ≤ 9 → inner ≤ 9 → k < inner → rows * k + 9 ≤ ROOM
+nine-within rows inner k few narrow h = omega (arith, mul-comm rows k, mul-le-mul-right k few)
 
 -- ---- what is known where the call is accepted
 pub record Accepted (w : Work) (out-shapes out-numbers : ℕ) : Type 0 where
@@ -242,18 +279,18 @@ module _ (w : Work) (os on : ℕ) (ok : transformRefusal w os on ≡ 0) where
         let chain : widthUnder (furtherOf w) 0 ≡ inner = old-chains (widthUnder (furtherOf w) 0) inner width (rw e at (f .1)) in
         (old-narrow (shapeAt (w .shapes)) (length (w .map)) (w .place) inner width (a .wide) (there .0) e, omega (arith, chain, f .0 .narrow), there .1)
 
-    pub chained-fits : (width * w .dof ≤ ROOM) × (inner * w .dof ≤ length (w .further)) × (ROOM * w .place + width * inner ≤ length (w .transforms))
+    pub chained-fits : (w .dof ≤ 9) × (inner ≤ 9) × (width * w .dof ≤ ROOM) × (length (w .further) ≡ ROOM) × (ROOM * w .place + width * inner ≤ length (w .transforms))
     chained-fits =
         let a = accepted-work w os on ok in
         let k = chained-known in
-        (room (w .dof) width (a .narrow) (k .0), rw (a .further-long) (room (w .dof) inner (a .narrow) (k .1)), omega (arith, room inner width (k .1) (k .0), k .2))
+        (a .narrow, k .1, room (w .dof) width (a .narrow) (k .0), a .further-long, omega (arith, room inner width (k .1) (k .0), k .2))
 
 -- ---- what the work leaves, without an old transform and with one
 module _ (w : Work) (cols : ℕ) (made : List Float) (to : List ℕ) (out : List Float)
-    (ts : to ≡ upto (length (w .map)) (shapeAfter (w .shapes) (w .place) (w .dof) cols)) (us : out ≡ upto (length (w .map)) (numbersAfter (w .transforms) (w .place) made)) where
+    (ts : to ≡ replaced (length (w .map)) (w .place) 2 (w .dof ∷ cols ∷ []) (orElse (2 * length (w .map)) NO_TRANSFORM (w .shapes)))
+    (us : out ≡ replaced (length (w .map)) (w .place) ROOM made (orElse (ROOM * length (w .map)) zeroF (w .transforms))) where
   multiplied : cols ≡ madeColumns w → made ≡ madeOf w → (to ≡ newShapes w) × (out ≡ newTransforms w)
-  multiplied wide is =
-      (ts ∙ ap (λ (c : ℕ). upto (length (w .map)) (shapeAfter (w .shapes) (w .place) (w .dof) c)) wide, us ∙ ap (λ (m : List Float). upto (length (w .map)) (numbersAfter (w .transforms) (w .place) m)) is)
+  multiplied wide is = (ts ∙ rw wide, us ∙ rw is)
 
   pub multiplied-alone : oldOf w ≡ Absent → cols ≡ widthUnder (furtherOf w) 0 → made ≡ newlyMade (w .dof) cols (entryFrom (w .further) 0 (w .dof)) → (to ≡ newShapes w) × (out ≡ newTransforms w)
   multiplied-alone none wide is = multiplied (wide ∙ rw none) (is ∙ rw (wide, none))

@@ -1,2 +1,1 @@
-mod Words
 mod Laws
