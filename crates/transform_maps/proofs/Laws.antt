@@ -33,16 +33,13 @@ use Rattle.transform_maps.specs.Multiply.{Work, furtherOf, oldOf, badSli
 
 -- ---- a slice that is empty or long enough, read element by element
 module _ {A : Type 0} where
-  getD-any : (l : List A) (k : ℕ) (d e : A) → k < length l → getD l k d ≡ getD l k e
+  pub getD-any : (l : List A) (k : ℕ) (d e : A) → k < length l → getD l k d ≡ getD l k e
   getD-any [] k d e h = absurd (not-suc-le-zero h)
   getD-any (x ∷ xs) zero d e h = refl
   getD-any (x ∷ xs) (suc k) d e h = getD-any xs k d e (le-of-suc-le-suc h)
 
   pub none-there : (l : List A) (i : ℕ) (x : A) → length l ≡ 0 → x ≡ getD l i x
   none-there l i x e = sym (List·getD-eq-default l x (omega arith))
-
-  pub some-there : (l : List A) (i : ℕ) (d x : A) → i < length l → getD l i d ≡ getD l i x
-  some-there l i d x h = getD-any l i d x h
 
   -- the list, or n times x where it is empty
   pub else-empty : (n : ℕ) (x : A) (l : List A) → length l ≡ 0 → replicate n x ≡ orElse n x l
