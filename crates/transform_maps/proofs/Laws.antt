@@ -5,7 +5,7 @@ use native.Mathlib.Numerals.{add-one}
 use native.Mathlib.Omega.{arith}
 use mathlib.Core.Path.{_≡_, refl, sym, ap, ap₂, _∙_}
 use mathlib.Core.Logic.{_⊎_, ⊎-elim}
-use mathlib.Core.Bool.{Bool, true, false, not, _||_}
+use mathlib.Core.Bool.{false, not, _||_}
 use mathlib.Core.List.{List, [], _∷_, _++_, append-assoc, append-nil}
 use lib.Dec.{eqb, ltb}
 use lib.ListN.{length, getD, set, take, drop, take-append-drop, drop-of-length-le, List·getD-eq-default, length-append, length-drop, replicate, length-replicate, getD-replicate, replicate-append-replicate}
@@ -26,10 +26,10 @@ use Rattle.normal_blocks.specs.Target.{numberFrom}
 use Rattle.derivative.specs.Action.{mostDof}
 use Rattle.block_transforms.specs.Transform.{NO_TRANSFORM, ROOM, shapeAt, entryFrom, widthUnder}
 use Rattle.block_transforms.specs.Reasons.{badBeside, MOST_COLUMNS, misfit}
-use Rattle.block_transforms.proofs.Laws.{Fits, transform-fits, transform-there, room}
+use Rattle.block_transforms.proofs.Laws.{Fits, transform-fits, transform-there}
 use Rattle.block_transforms.specs.declared.Shape.{Shape}
 use Rattle.block_transforms.specs.declared.Shape.the-variants.{Absent, Sized}
-use Rattle.transform_maps.specs.Multiply.{Work, furtherOf, oldOf, badSlices, tooWide, wideAt, someWide, unchained, badFurther, transformRefusal, newlyMade, chained, madeColumns, madeOf, orElse, spliced, replaced, newShapes, newTransforms}
+use Rattle.transform_maps.specs.Multiply.{Work, furtherOf, oldOf, badSlices, tooWide, wideAt, someWide, unchained, badFurther, transformRefusal, newlyMade, chained, madeEntry, madeColumns, orElse, spliced, replaced, newShapes, newTransforms}
 
 -- ---- a slice that is empty or long enough, read element by element
 module _ {A : Type 0} where
@@ -236,62 +236,47 @@ accepted-work w os on h =
     }
 
 -- the further one has dof rows and at most nine columns, and the old one as many rows as it has columns
-pub further-fits : (dof rows cols : ℕ) (old : Shape) → badFurther dof (Sized rows cols) old ≡ false → Fits dof rows cols × (unchained cols old ≡ false)
+further-fits : (dof rows cols : ℕ) (old : Shape) → badFurther dof (Sized rows cols) old ≡ false → Fits dof rows cols × (unchained cols old ≡ false)
 unfolding badFurther
 further-fits dof rows cols old h =
     let p = either-none (misfit dof (Sized rows cols)) _ h in
     (transform-fits dof rows cols (Sized rows cols) refl (p .0), p .1)
 
-pub old-chains : (cols rows cols′ : ℕ) → unchained cols (Sized rows cols′) ≡ false → cols ≡ rows
+old-chains : (cols rows cols′ : ℕ) → unchained cols (Sized rows cols′) ≡ false → cols ≡ rows
 unfolding unchained
 old-chains cols rows cols′ h = long-is cols rows h
 
-pub old-narrow : (shape : ℕ → Shape) (words k rows cols : ℕ) → someWide shape words ≡ false → k < words → shape k ≡ Sized rows cols → cols ≤ MOST_COLUMNS
+old-narrow : (shape : ℕ → Shape) (words k rows cols : ℕ) → someWide shape words ≡ false → k < words → shape k ≡ Sized rows cols → cols ≤ MOST_COLUMNS
 unfolding someWide wideAt tooWide
 old-narrow shape words k rows cols none h e = ltb-false MOST_COLUMNS cols (rw e at (nowhere-at (wideAt shape) words none k h))
 
--- what is made where there was no transform, and where there was one
+-- how wide what is made is, and the old transform at the place
 module _ (w : Work) (os on : ℕ) (ok : transformRefusal w os on ≡ 0) where
-  further-sized : (s : Shape) → badFurther (w .dof) s (oldOf w) ≡ false → Fits (w .dof) (w .dof) (widthUnder s 0) × (unchained (widthUnder s 0) (oldOf w) ≡ false)
+  further-sized : (s : Shape) → badFurther (w .dof) s (oldOf w) ≡ false → (widthUnder s 0 ≤ 9) × (unchained (widthUnder s 0) (oldOf w) ≡ false)
   unfolding badFurther
   further-sized Absent h = let z : _≡_ {A = ℕ} 0 1 = cc in absurd (omega arith)
-  further-sized (Sized rows cols) h =
-      let p = further-fits (w .dof) rows cols (oldOf w) h in
-      (record { narrow = p .0 .narrow; tall = refl }, p .1)
+  further-sized (Sized rows cols) h = let p = further-fits (w .dof) rows cols (oldOf w) h in (p .0 .narrow, p .1)
 
-  pub alone-fits : widthUnder (furtherOf w) 0 * w .dof ≤ ROOM
-  alone-fits =
+  pub old-known : (inner width : ℕ) → oldOf w ≡ Sized inner width → (width ≡ madeColumns w) × (inner ≤ 9) × (ROOM * w .place + ROOM ≤ length (w .transforms))
+  old-known inner width e =
       let a = accepted-work w os on ok in
-      room (w .dof) (widthUnder (furtherOf w) 0) (a .narrow) (further-sized (furtherOf w) (a .fitting) .0 .narrow)
+      let f = further-sized (furtherOf w) (a .fitting) in
+      let chain : widthUnder (furtherOf w) 0 ≡ inner = old-chains (widthUnder (furtherOf w) 0) inner width (rw e at (f .1)) in
+      (rw e, omega (arith, chain, f .0), transform-there (length (w .map)) (w .shapes) (length (w .transforms)) (w .place) inner width (a .slices) e .1)
 
-  pub alone-columns : widthUnder (furtherOf w) 0 ≤ 9
-  alone-columns = further-sized (furtherOf w) (accepted-work w os on ok .fitting) .0 .narrow
+  pub made-narrow : madeColumns w ≤ 9
+  made-narrow = go (oldOf w) refl
+    where
+      go : (s : Shape) → oldOf w ≡ s → widthUnder s (widthUnder (furtherOf w) 0) ≤ 9
+      go Absent e = further-sized (furtherOf w) (accepted-work w os on ok .fitting) .0
+      go (Sized inner width) e =
+          let a = accepted-work w os on ok in
+          old-narrow (shapeAt (w .shapes)) (length (w .map)) (w .place) inner width (a .wide) (transform-there (length (w .map)) (w .shapes) (length (w .transforms)) (w .place) inner width (a .slices) e .0) e
 
-  module _ (inner width : ℕ) (e : oldOf w ≡ Sized inner width) where
-    pub chained-known : (width ≤ 9) × (inner ≤ 9) × (ROOM * w .place + ROOM ≤ length (w .transforms))
-    chained-known =
-        let a = accepted-work w os on ok in
-        let f = further-sized (furtherOf w) (a .fitting) in
-        let there = transform-there (length (w .map)) (w .shapes) (length (w .transforms)) (w .place) inner width (a .slices) e in
-        let chain : widthUnder (furtherOf w) 0 ≡ inner = old-chains (widthUnder (furtherOf w) 0) inner width (rw e at (f .1)) in
-        (old-narrow (shapeAt (w .shapes)) (length (w .map)) (w .place) inner width (a .wide) (there .0) e, omega (arith, chain, f .0 .narrow), there .1)
-
-    pub chained-fits : (w .dof ≤ 9) × (inner ≤ 9) × (width * w .dof ≤ ROOM) × (length (w .further) ≡ ROOM) × (ROOM * w .place + width * inner ≤ length (w .transforms))
-    chained-fits =
-        let a = accepted-work w os on ok in
-        let k = chained-known in
-        (a .narrow, k .1, room (w .dof) width (a .narrow) (k .0), a .further-long, omega (arith, room inner width (k .1) (k .0), k .2))
-
--- ---- what the work leaves, without an old transform and with one
-module _ (w : Work) (cols : ℕ) (made : List Float) (to : List ℕ) (out : List Float)
-    (ts : to ≡ replaced (length (w .map)) (w .place) 2 (w .dof ∷ cols ∷ []) (orElse (2 * length (w .map)) NO_TRANSFORM (w .shapes)))
-    (us : out ≡ replaced (length (w .map)) (w .place) ROOM made (orElse (ROOM * length (w .map)) zeroF (w .transforms))) where
-  multiplied : cols ≡ madeColumns w → made ≡ madeOf w → (to ≡ newShapes w) × (out ≡ newTransforms w)
-  multiplied wide is = (ts ∙ rw wide, us ∙ rw is)
-
-  pub multiplied-alone : oldOf w ≡ Absent → cols ≡ widthUnder (furtherOf w) 0 → made ≡ newlyMade (w .dof) cols (entryFrom (w .further) 0 (w .dof)) → (to ≡ newShapes w) × (out ≡ newTransforms w)
-  multiplied-alone none wide is = multiplied (wide ∙ rw none) (is ∙ rw (wide, none))
-
-  pub multiplied-chained : (inner : ℕ) → oldOf w ≡ Sized inner cols
-      → made ≡ newlyMade (w .dof) cols (chained inner (entryFrom (w .further) 0 (w .dof)) (entryFrom (w .transforms) (ROOM * w .place) inner)) → (to ≡ newShapes w) × (out ≡ newTransforms w)
-  multiplied-chained inner some is = multiplied (rw some) (is ∙ rw some)
+-- ---- what the work leaves
+pub multiplied : (w : Work) (cols : ℕ) (old : Shape) (made : List Float) (to : List ℕ) (out : List Float)
+    → to ≡ replaced (length (w .map)) (w .place) 2 (w .dof ∷ cols ∷ []) (orElse (2 * length (w .map)) NO_TRANSFORM (w .shapes))
+    → out ≡ replaced (length (w .map)) (w .place) ROOM made (orElse (ROOM * length (w .map)) zeroF (w .transforms))
+    → cols ≡ madeColumns w → old ≡ oldOf w → made ≡ newlyMade (w .dof) cols (madeEntry old (entryFrom (w .further) 0 (w .dof)) (entryFrom (w .transforms) (ROOM * w .place)))
+    → (to ≡ newShapes w) × (out ≡ newTransforms w)
+multiplied w cols old made to out ts us wide is e = (ts ∙ rw wide, us ∙ rw (e, wide, is))

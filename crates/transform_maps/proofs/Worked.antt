@@ -3,7 +3,7 @@ use Prim.Native.Nat.{ℕ}
 use mathlib.Core.Path.{_≡_, refl}
 use mathlib.Core.List.{List, [], _∷_, _++_}
 use lib.ListN.{replicate}
-use lib.Ieee.{Float, binary64, ofBits, add, mul}
+use lib.Ieee.{Float, binary64, ofBits, mul}
 use Rattle.sums.specs.Sum.{zeroF}
 use Rattle.normal_blocks.specs.Somewhere.{somewhere}
 use Rattle.normal_blocks.specs.Map.{badWord, badWordAt, badWords}

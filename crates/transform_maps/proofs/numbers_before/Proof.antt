@@ -2,7 +2,6 @@
 use mathlib.Core.Path.{sym, _∙_}
 use mathlib.Core.Logic.{⊎-elim}
 use borrow.Author.Needs.{needs}
-use lib.ListN.{length}
 use Rattle.sums.specs.Sum.{zeroF}
 use Rattle.transform_maps.proofs.Laws.{else-empty, else-there}
 use Rattle.transform_maps.proofs.numbers_before.Statement.{statement}

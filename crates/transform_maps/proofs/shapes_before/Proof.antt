@@ -1,7 +1,7 @@
 -- `transform_maps::shapes_before` meets its contract: after i turns the first i words are those before the call. Assumes nothing.
 use Prim.Native.Nat.{_≤_, _-_}
 use native.Mathlib.Omega.{arith}
-use mathlib.Core.Path.{_≡_, refl, sym, _∙_}
+use mathlib.Core.Path.{_≡_, sym, _∙_}
 use mathlib.Core.Logic.{⊎-elim, inl, inr}
 use lib.ListN.{length, take, length-set}
 use borrow.Author.Needs.{needs}
