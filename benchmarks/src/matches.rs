@@ -226,7 +226,9 @@ pub mod plain {
         if matches.iter().any(bad) {
             return f64::NAN;
         }
-        let (h, g, cost) = sums::<WIDTH>(matches, action);
+        let mut h = [[0.0; WIDTH]; WIDTH];
+        let mut g = [0.0; WIDTH];
+        let cost = add_groups(matches, action, &mut h, &mut g);
         let order = gradient.len();
         for j in 0..WIDTH {
             let column = &mut hessian[(offset + j) * order + offset..][..WIDTH];
@@ -238,14 +240,14 @@ pub mod plain {
         cost
     }
 
-    /// The block by columns, the vector and the cost.
+    /// The groups' sums are added to a block by columns and to a vector. The answer is the cost.
     #[inline(always)]
-    pub fn sums<const WIDTH: usize>(
+    pub fn add_groups<const WIDTH: usize>(
         matches: &[Match],
         action: &Action,
-    ) -> ([[f64; WIDTH]; WIDTH], [f64; WIDTH], f64) {
-        let mut h = [[0.0; WIDTH]; WIDTH];
-        let mut g = [0.0; WIDTH];
+        h: &mut [[f64; WIDTH]; WIDTH],
+        g: &mut [f64; WIDTH],
+    ) -> f64 {
         let mut cost = 0.0;
         for group in matches.chunks(GROUP) {
             let mut group_h = [[0.0; WIDTH]; WIDTH];
@@ -271,7 +273,7 @@ pub mod plain {
             }
             cost += group_cost;
         }
-        (h, g, cost)
+        cost
     }
 
     #[inline(never)]

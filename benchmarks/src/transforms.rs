@@ -147,7 +147,7 @@ fn measure_added<Input>(
     for input in inputs {
         assert_eq!(library(input, &mut by_library), Ok(()));
         assert_eq!(rust(input, &mut by_rust), Ok(()));
-        assert_eq!(by_library.bits(), by_rust.bits());
+        assert!(by_library.bits() == by_rust.bits());
     }
     measure_on(
         function,
@@ -208,7 +208,7 @@ fn measure_transform<const ROWS: usize, const INNER: usize, const WIDTH: usize>(
     assert_eq!(rust(&mut by_rust), Ok(()));
     assert_eq!(by_library.shapes, by_rust.shapes);
     let bits = |out: &Beside| -> Vec<u64> { out.transforms.iter().map(|x| x.to_bits()).collect() };
-    assert_eq!(bits(&by_library), bits(&by_rust));
+    assert!(bits(&by_library) == bits(&by_rust));
     measure_on(
         "transform",
         &format!(
@@ -229,7 +229,7 @@ mod plain {
     use crate::frames::plain::{
         centre, derivatives, dot, fit, three, times, Action, Frame, MEAN, SCATTER,
     };
-    use crate::matches::plain::{bad, sums, Match};
+    use crate::matches::plain::{add_groups, bad, Match};
     use maghnelt::{
         ACTION, CENTRED, MATCH, MAX_DOF, MAX_FRAMES, MAX_MATCHES, MAX_ORDER, MAX_WORDS,
         NO_TRANSFORM, UNMAPPED,
@@ -429,7 +429,9 @@ mod plain {
         }
         let action = action.try_into().map_err(|_| 8_u32)?;
         of_good_map(map, shapes, 1, dof, gradient.len())?;
-        let (columns, vector, sum) = sums::<DOF>(matches, action);
+        let mut columns = [[0.0; DOF]; DOF];
+        let mut vector = [0.0; DOF];
+        let sum = add_groups(matches, action, &mut columns, &mut vector);
         let through = Block { columns, vector }.through::<WIDTH>(&transforms[0]);
         through.add(map[0] as usize, hessian, gradient);
         *cost = sum;

@@ -1,4 +1,4 @@
-// Many matches on one pose: why a list is turned away, its rows, and what it adds to the normal equations.
+// Many matches on one pose: why a list is turned away, and its rows.
 ghost use mathlib.Core.Path.{_≡_};
 ghost use Prim.Native.Nat.{_*_, _<_, _≤_};
 ghost use mathlib.Core.Bool.{false};

@@ -26,7 +26,7 @@ returns c =
     let placed = stored .before .before .before in
     let pre = placed .before .before .before .before .before .before .before .before .before .pre in (
       frame-mapped _ _ _ _ _ _ _ _ _ _ _ _ (placed .p .given .1)
-      (frame-added _ _ _ _ _ _ _ _ _ _ _ _ _ _ _ _ _ _ (λ rows cols sized. pre .4 rows cols sized .1) (stored .store .ensures) (added .add-stored .ensures .0)),
+          (frame-added _ _ _ _ _ _ _ _ _ _ _ _ _ _ _ _ _ _ (λ rows cols sized. pre .4 rows cols sized .1) (stored .store .ensures) (added .add-stored .ensures .0)),
       stored .store .ensures .size,
       added .add-stored .ensures .1,
     )
