@@ -65,8 +65,8 @@ extern "C" {
  * Beside a map may lie a transform for each word, or none: a matrix T of dof rows, in the same axes as the derivative columns
  * of the frame's action, which says how the frame's parameters follow from those that are solved for. Its shape is two
  * numbers, rows and columns, both MAGHNELT_NO_TRANSFORM where the word has none; T(r, c) is number rows * c + r of its
- * MAGHNELT_TRANSFORM numbers. shapes has the shapes of word 0, of word 1 and so on, and transforms their numbers; both are
- * empty where no word has a transform.
+ * MAGHNELT_TRANSFORM numbers. shapes has the shapes of word 0, of word 1 and so on, and transforms their numbers; both may
+ * be empty where no word has a transform.
  */
 #define MAGHNELT_NO_TRANSFORM UINT32_C(0xFFFFFFFF)
 
@@ -152,8 +152,8 @@ uint32_t maghnelt_remap(const uint32_t *map, size_t map_length, const uint32_t *
  * it. Every other word has its shape and its MAGHNELT_TRANSFORM numbers as they came; where shapes and transforms are empty,
  * no transform and zeros. A place past the map's end changes no word. further_shape has 2 numbers and further
  * MAGHNELT_TRANSFORM; out_shapes has 2 numbers for each word of the map and out_transforms MAGHNELT_TRANSFORM. Refused by 1,
- * 3, 9, and then by 14 if a word's transform has more than 9 columns, or the further one has more than 9 columns (none is no
- * further transform), other than dof rows, or other columns than the one at the place has rows.
+ * 3, 9, and then by 14 if a word's transform has more than 9 columns, or if the further one is none, has more than 9 columns
+ * or other than dof rows, wherever the place is, or has other columns than the one at the place has rows.
  */
 uint32_t maghnelt_transform(uint32_t dof, const uint32_t *map, size_t map_length, const uint32_t *shapes,
                             size_t shapes_length, const double *transforms, size_t transforms_length, uint32_t place,
