@@ -20,7 +20,7 @@ add-through-requires c κs =
     let pre = told .before .before .before .before .before .pre in
     let sized = told .s .given .1 in
     let there = pre .7 _ _ sized in
-    (omega (arith, there .1, pre .0), there .0, pre .1, omega (arith, there .1, pre .2), there-room _ _ _ _ _ (pre .0) (there .0) (there .1) (there .2), rw sized at (pre .3), pre .4, pre .5, pre .6)
+    (omega (arith, there .1, pre .0), there .0, pre .1, omega (arith, there .1, pre .2), omega (arith, there-room _ _ _ _ _ (pre .0) (there .0) (there .1) (there .2)), rw sized at (pre .3), pre .4, pre .5, pre .6)
 
 returns : tie.Need-returns
 returns c =
