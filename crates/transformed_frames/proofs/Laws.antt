@@ -3,6 +3,7 @@ use Prim.Native.Nat.{ℕ, _+_, _*_, _<_}
 use native.Mathlib.Omega.{arith}
 use mathlib.Core.Path.{_≡_, refl, sym, ap, _∙_}
 use mathlib.Core.Bool.{false}
+use mathlib.Core.Logic.{⊎-elim}
 use mathlib.Core.List.{List, [], _∷_}
 use lib.ListN.{length}
 use lib.Ieee.{Float}
@@ -15,8 +16,8 @@ use Rattle.normal_blocks.specs.Map.{lookup, exceeds}
 use Rattle.normal_blocks.specs.Laws.{fits}
 use Rattle.normal_blocks.specs.TargetLaws.{hessian-mapped, gradient-mapped, hessian-unmapped, gradient-unmapped}
 use Rattle.call_lists.specs.Accumulated.{Accumulated}
-use Rattle.block_transforms.specs.Transform.{Beside, ROOM, shapeAt, entryFrom, blockUnder, vectorUnder, widthUnder, widthAt}
-use Rattle.block_transforms.proofs.Laws.{transform-fits, every-fits, transform-there}
+use Rattle.block_transforms.specs.Transform.{Beside, without, ROOM, shapeAt, entryFrom, blockUnder, vectorUnder, widthUnder, widthAt}
+use Rattle.block_transforms.proofs.Laws.{beside-fits, transform-fits, every-fits, transform-there}
 use Rattle.block_transforms.specs.declared.Shape.{Shape}
 use Rattle.block_transforms.specs.declared.Shape.the-variants.{Absent, Sized}
 use Rattle.transform_products.specs.Rows.{rowsOf, spaced, AddedRows, AddedThrough}
@@ -32,7 +33,7 @@ use Rattle.frame_cost.specs.Cost.{weightOf, frameCost, costAt}
 use Rattle.frame_cost.specs.declared.Pull.{Pull}
 use Rattle.frame_blocks.specs.Pulls.{pullAt}
 use Rattle.frame_blocks.specs.Frames.{first-more}
-use Rattle.plane_moments.specs.Accumulate.{FramesWork, transformedFramesRefusal, fitOf, transformedFramesCall}
+use Rattle.plane_moments.specs.Accumulate.{FramesWork, transformedFramesRefusal, fitOf, transformedFramesCall, framesRefusal, framesCall}
 use Rattle.plane_moments.proofs.Accumulating.{accepted-call, plane-call}
 use Rattle.transformed_frames.specs.Frames.{throughUnder, There, Ready, FrameAdded, Summed, AllAdded}
 
@@ -94,6 +95,27 @@ module _ (order dof : ℕ) (frames actions : List Float) (map shapes : List ℕ)
   summed-more k rows p s q sum h₀ h h′ g₀ g g′ el ep es eq a before =
       first-more order (throughUnder dof frames actions map shapes transforms n offset weight) _ k p _ _ (q .cost) _ sum h₀ h h′ g₀ g g′ ep (λ i j li lj. refl) (λ i li. refl) (ap (λ (o : Pull). o .cost) eq)
       (rw (el, es) at (a .hessian)) (rw (es, eq) at (a .gradient)) before
+
+-- ---- AN ACCEPTED CALL WITHOUT SHAPES has no numbers either: it is one that takes no transforms
+no-slices : (w : FramesWork) (shapes : List ℕ) (transforms : List Float) → length shapes ≡ 0 → length transforms ≡ 0 → record { work = w; shapes = shapes; transforms = transforms } ≡ without w
+no-slices w [] [] p q = refl
+no-slices w [] (x ∷ t) p q = absurd (omega (arith, q))
+no-slices w (k ∷ s) t p q = absurd (omega (arith, p))
+
+module _ (m n : ℕ) (b : Beside FramesWork) (e : transformedFramesRefusal m n b ≡ 0) (none : length (b .shapes) ≡ 0) where
+  is-plain : b ≡ without (b .work)
+  is-plain =
+      no-slices (b .work) (b .shapes) (b .transforms) none
+      (⊎-elim (λ p. p .1) (λ p. omega (arith, none, p .0, p .1)) (beside-fits (length (b .work .map)) (length (b .shapes)) (length (b .transforms)) (accepted-call m n b e .slices)))
+
+  pub plain-accepted : framesRefusal m n (b .work) ≡ 0
+  plain-accepted = sym (ap (transformedFramesRefusal m n) is-plain) ∙ e
+
+  same-call : transformedFramesCall m n b ≡ framesCall m n (b .work)
+  same-call = ap (transformedFramesCall m n) is-plain
+
+  pub plain-added : (h g : List Float) (x r : Float) (h′ g′ : List Float) → Accumulated (framesCall m n (b .work)) h g x 0 h′ g′ r → Accumulated (transformedFramesCall m n b) h g x 0 h′ g′ r
+  plain-added h g x r h′ g′ a = rw same-call a
 
 -- ---- an accepted call: what its work may rely on, and what it has done with a plane
 pub ready-call : (m n : ℕ) (b : Beside FramesWork) → transformedFramesRefusal m n b ≡ 0 → Ready m n (b .work .dof) (b .work .frames) (b .work .actions) (b .work .map) (b .shapes) (b .transforms)
