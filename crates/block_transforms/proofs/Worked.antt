@@ -1,14 +1,15 @@
 -- Document 02's cases of block transforms and what else pins the definitions, by computation. The numbers were worked out on paper. Assumes nothing.
 use Prim.Native.Nat.{ℕ}
 use mathlib.Core.Path.{_≡_, refl}
+use mathlib.Core.Bool.{true, false}
 use mathlib.Core.List.{List, [], _∷_, map}
 use lib.Ieee.{Float, binary64, ofBits, add, mul}
 use Rattle.sums.specs.Sum.{zeroF}
 use Rattle.normal_blocks.specs.Somewhere.{somewhere}
 use Rattle.normal_blocks.specs.Map.{placeOf, wordAt, lookup, badWord, badWordAt, badWords, exceeds, exceedsAt, someExceeds}
 use Rattle.block_transforms.specs.Transform.{NO_TRANSFORM, shapeOf, shapeAt, entryFrom, leftProduct, transformedBlock, transformedVector, widthAt}
-use Rattle.block_transforms.specs.Reasons.{misfit, misfitAt, someMisfit, throughRefusal}
-use Rattle.block_transforms.specs.declared.Shape.the-variants.{Sized}
+use Rattle.block_transforms.specs.Reasons.{badBeside, misfit, misfitAt, someMisfit, throughRefusal}
+use Rattle.block_transforms.specs.declared.Shape.the-variants.{Absent, Sized}
 
 -- matrices of two rows by their columns, and numbers by their bit patterns
 abbrev matrix : List ℕ → ℕ → ℕ → Float
@@ -64,7 +65,35 @@ pub no-numbers : (t : ℕ → ℕ → Float) (u : ℕ → Float) (i : ℕ) → t
 unfolding transformedVector
 no-numbers t u i = refl
 
--- ---- a shape is none only if both its words say so
+-- ---- rising index: of 2^53, 1 and 1 the sum is 2^53, as each 1 is lost; from the last one on it would be 2^53 + 2
+abbrev ones : ℕ → ℕ → Float
+ones r c = ofBits binary64 one
+
+abbrev falling : ℕ → Float
+falling r = entryFrom (map (ofBits binary64) (0x4340_0000_0000_0000 ∷ one ∷ one ∷ [])) 0 3 r 0
+
+pub vector-rising : transformedVector 3 ones falling 0 ≡ ofBits binary64 0x4340_0000_0000_0000
+unfolding transformedVector entryFrom ofBits add mul
+vector-rising = refl
+
+pub left-rising : leftProduct 3 ones (λ r k. falling r) 0 0 ≡ ofBits binary64 0x4340_0000_0000_0000
+unfolding leftProduct entryFrom ofBits add mul
+left-rising = refl
+
+-- M has 2^53, 1 and 1 in its first row and zeros below
+pub block-rising : transformedBlock 3 ones (λ r k. entryFrom (falling k ∷ zeroF ∷ zeroF ∷ []) 0 3 r 0) 0 0 ≡ ofBits binary64 0x4340_0000_0000_0000
+unfolding transformedBlock leftProduct entryFrom ofBits add mul
+block-rising = refl
+
+-- ---- a shape is none only if both its words say so, and these are 4,294,967,295
+pub none-is : shapeAt (0xFFFF_FFFF ∷ 0xFFFF_FFFF ∷ []) 0 ≡ Absent
+unfolding shapeAt shapeOf
+none-is = refl
+
+pub none-is-alone : shapeAt (0xFFFF_FFFE ∷ 0xFFFF_FFFE ∷ []) 0 ≡ Sized 0xFFFF_FFFE 0xFFFF_FFFE
+unfolding shapeAt shapeOf
+none-is-alone = refl
+
 pub half-none : shapeAt (NO_TRANSFORM ∷ 5 ∷ []) 0 ≡ Sized NO_TRANSFORM 5
 unfolding shapeAt shapeOf
 half-none = refl
@@ -84,6 +113,32 @@ six-exceed = refl
 pub ten-columns : refused (0 ∷ []) (6 ∷ 10 ∷ []) ≡ 14
 unfolding throughRefusal badWords badWordAt badWord somewhere someMisfit misfitAt misfit someExceeds exceedsAt exceeds lookup wordAt placeOf widthAt shapeAt shapeOf
 ten-columns = refl
+
+-- nine columns fit, in an order of nine
+pub nine-columns : throughRefusal (0 ∷ []) (shapeAt (6 ∷ 9 ∷ [])) 1 6 9 ≡ 0
+unfolding throughRefusal badWords badWordAt badWord somewhere someMisfit misfitAt misfit someExceeds exceedsAt exceeds lookup wordAt placeOf widthAt shapeAt shapeOf
+nine-columns = refl
+
+-- ---- 3: of two words both slices are empty, or have 4 words and 162 numbers
+pub beside-none : badBeside 2 0 0 ≡ false
+unfolding badBeside
+beside-none = refl
+
+pub beside-two : badBeside 2 4 162 ≡ false
+unfolding badBeside
+beside-two = refl
+
+pub shapes-alone : badBeside 2 4 0 ≡ true
+unfolding badBeside
+shapes-alone = refl
+
+pub numbers-alone : badBeside 2 0 162 ≡ true
+unfolding badBeside
+numbers-alone = refl
+
+pub one-more : badBeside 2 4 163 ≡ true
+unfolding badBeside
+one-more = refl
 
 -- 9 before 14; and 14 of a word that no frame has
 pub nine-first : refused (0xFFFF_FFFF ∷ []) (6 ∷ 10 ∷ []) ≡ 9

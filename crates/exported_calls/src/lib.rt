@@ -1,13 +1,19 @@
 // Calls of the exported functions, one after the other. What is proved of them comes from the exported contracts alone: accumulating calls make the chain that
-// demand 3 speaks of, and leave what it says; the two builds agree where the survey rule does not refuse.
+// demand 3 speaks of, and leave what it says; a match list goes through the product that multiplying has left; the two builds agree where the survey rule does
+// not refuse.
 use maghnelt::maghnelt_frames_accumulate;
 use maghnelt::maghnelt_frames_accumulate_transformed;
 use maghnelt::maghnelt_frames_build;
 use maghnelt::maghnelt_frames_build_strict;
 use maghnelt::maghnelt_matches_accumulate;
 use maghnelt::maghnelt_matches_accumulate_transformed;
+use maghnelt::maghnelt_transform;
 ghost use mathlib.Core.List.{[], _∷_};
+ghost use lib.ListN.{length};
 ghost use Rattle.block_transforms.specs.Transform.{without};
+ghost use Rattle.transform_maps.specs.Multiply.{Multiplied};
+ghost use Rattle.call_lists.specs.Accumulated.{Accumulated};
+ghost use Rattle.map_planes.specs.Accumulate.{transformedMatchesCall};
 ghost use Rattle.plane_moments.specs.Accumulate.{work};
 ghost use Rattle.plane_moments.specs.Build.{outputs};
 ghost use Rattle.normal_list.specs.Work.{framesMade, matchesMade};
@@ -94,6 +100,56 @@ pub fn four_calls(
         third: three,
         fourth: four,
     }
+}
+
+// What multiplying and accumulating return.
+pub struct Stages {
+    pub multiplied: u32,
+    pub added: u32,
+}
+
+// A further transform multiplies that of a word, and a match list is accumulated through what this has left.
+pub fn multiply_and_add(
+    dof: u32,
+    map: &[u32],
+    shapes: &[u32],
+    transforms: &[f64],
+    place: u32,
+    shape: &[u32],
+    further: &[f64],
+    to: &mut [u32],
+    out: &mut [f64],
+    matches: &[f64],
+    action: &[f64],
+    hessian: &mut [f64],
+    gradient: &mut [f64],
+    cost: &mut f64,
+) -> Stages
+    ensures { λ r. ⌜ Multiplied (record { dof = dof; map = now (map .entry); shapes = now (shapes .entry); transforms = now (transforms .entry); place = place; further-shape = now (shape .entry); further = now (further .entry) }) (r .multiplied) (now (to .entry)) (now (out .entry)) (now (to .exit)) (now (out .exit)) × Accumulated (transformedMatchesCall (length (now (hessian .entry))) (length (now (gradient .entry))) (record { work = record { dof = dof; matches = now (matches .entry); action = now (action .entry); map = now (map .entry) }; shapes = now (to .exit); transforms = now (out .exit) })) (now (hessian .entry)) (now (gradient .entry)) (now (cost .entry)) (r .added) (now (hessian .exit)) (now (gradient .exit)) (now (cost .exit)) ⌝ }
+{
+    let multiplied = maghnelt_transform(
+        dof,
+        map,
+        shapes,
+        transforms,
+        place,
+        shape,
+        further,
+        to,
+        out,
+    );
+    let added = maghnelt_matches_accumulate_transformed(
+        dof,
+        matches,
+        action,
+        map,
+        to,
+        out,
+        hessian,
+        gradient,
+        cost,
+    );
+    Stages { multiplied, added }
 }
 
 // What the two builds return.

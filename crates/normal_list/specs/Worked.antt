@@ -109,14 +109,14 @@ minus48 = 0xc048_0000_0000_0000
 abbrev sixtyFour : ℕ
 sixtyFour = 0x4050_0000_0000_0000
 
-abbrev minus80 : ℕ
-minus80 = 0xc054_0000_0000_0000
-
 abbrev seventyTwo : ℕ
 seventyTwo = 0x4052_0000_0000_0000
 
 abbrev ninetySix : ℕ
 ninetySix = 0x4058_0000_0000_0000
+
+abbrev oneOhFour : ℕ
+oneOhFour = 0x405a_0000_0000_0000
 
 abbrev oneThirtySix : ℕ
 oneThirtySix = 0x4061_0000_0000_0000
@@ -124,8 +124,8 @@ oneThirtySix = 0x4061_0000_0000_0000
 abbrev twoSeventyTwo : ℕ
 twoSeventyTwo = 0x4071_0000_0000_0000
 
-abbrev sixFiftySix : ℕ
-sixFiftySix = 0x4084_8000_0000_0000
+abbrev twoNinetySix : ℕ
+twoNinetySix = 0x4072_8000_0000_0000
 
 abbrev numbers : List ℕ → List Float
 numbers ps = map (ofBits binary64) ps
@@ -194,12 +194,12 @@ flat = frames (without (seenFrom 1 square [] staying round (5 ∷ [])))
 abbrev nowhere : Work
 nowhere = frames (without (seenFrom 1 square [] staying upright []))
 
--- T = (1, 2)ᵀ of the first frame, and none of the second
+-- T = (1, 2)ᵀ of the second frame, and none of the first: its 81 numbers are not read
 abbrev narrowed : Work
 narrowed = frames (record {
-  work = seenFrom 2 (square ++ pair) known (staying ++ resting) upright (6 ∷ 10 ∷ []);
-  shapes = 2 ∷ 1 ∷ NO_TRANSFORM ∷ NO_TRANSFORM ∷ [];
-  transforms = numbers ((one ∷ two ∷ replicate 79 three) ++ replicate 81 three);
+  work = seenFrom 2 (square ++ pair) known (staying ++ resting) upright (10 ∷ 6 ∷ []);
+  shapes = NO_TRANSFORM ∷ NO_TRANSFORM ∷ 2 ∷ 1 ∷ [];
+  transforms = numbers (replicate 81 three ++ one ∷ two ∷ replicate 79 three);
 })
 
 -- T has the columns (1, 0), (0, 1) and (1, 1)
@@ -272,14 +272,14 @@ pub record Done (r₁ r₂ r₃ r₄ r₅ r₆ r₇ r₈ : Got) (h g h′ g′ :
   pub flat-keeps-row : row g′ 5 ≡ row g 5
   -- a frame that goes nowhere costs
   pub nowhere-costs : answerOf r₅ ≡ cost (ofBits binary64 sixteen)
-  -- Of the first frame M has the columns (272, 64) and (64, 32), so that Tᵀ·M = (400, 128), Tᵀ·M·T = 656 and Tᵀ·v = -80: one row and no second
+  -- Of the second frame M has the columns (136, 32) and (32, 8), so that Tᵀ·M = (200, 48), Tᵀ·M·T = 296 and Tᵀ·v = 104: one row and no second
   pub narrowed-costs : answerOf r₆ ≡ cost (ofBits binary64 ninetySix)
-  pub narrowed-adds : cell h′ 6 6 ≡ cell h 6 6 ⊕ ofBits binary64 sixFiftySix
-  pub narrowed-pulls : row g′ 6 ≡ row g 6 ⊕ ofBits binary64 minus80
+  pub narrowed-adds : cell h′ 6 6 ≡ cell h 6 6 ⊕ ofBits binary64 twoNinetySix
+  pub narrowed-pulls : row g′ 6 ≡ row g 6 ⊕ ofBits binary64 oneOhFour
   pub narrowed-ends : cell h′ 6 7 ≡ cell h 6 7
-  pub untransformed-adds : cell h′ 10 10 ≡ cell h 10 10 ⊕ ofBits binary64 oneThirtySix
-  pub untransformed-adds-beside : cell h′ 11 10 ≡ cell h 11 10 ⊕ ofBits binary64 thirtyTwo
-  pub untransformed-pulls : row g′ 11 ≡ row g 11 ⊕ ofBits binary64 sixteen
+  pub untransformed-adds : cell h′ 10 10 ≡ cell h 10 10 ⊕ ofBits binary64 twoSeventyTwo
+  pub untransformed-adds-beside : cell h′ 11 10 ≡ cell h 11 10 ⊕ ofBits binary64 sixtyFour
+  pub untransformed-pulls : row g′ 11 ≡ row g 11 ⊕ ofBits binary64 minus16
   -- M has the columns (18, 6) and (6, 4), so that Tᵀ·M has the rows (18, 6), (6, 4) and (24, 10)
   pub widened-costs : answerOf r₇ ≡ cost (ofBits binary64 five)
   pub widened-adds : cell h′ 7 9 ≡ cell h 7 9 ⊕ ofBits binary64 twentyFour
@@ -291,7 +291,7 @@ pub apart : Apart 144 12 worksOf
 unfolding ownSegments frameSegment transformedFramesRefusal badLengths badRecords badCount badTarget badBeside finiteAbove badWords badWordAt badWord somewhere someMisfit misfitAt misfit someExceeds exceedsAt exceeds widthAt shapeAt shapeOf lookup wordAt placeOf upto transformedMatchesRefusal badMatches reasonsAt badPoint badSigma allFinite ofBits add mul sub div neg lt le
 apart = all-apart (ownSegments 144 12) worksOf refl
 
--- and by words and shapes alone, two of them: the frames of `narrowed` have row 6, and rows 10 and 11, the match list rows 7 to 9
+-- and by words and shapes alone, two of them: the frames of `narrowed` have rows 10 and 11, and row 6, the match list rows 7 to 9
 apart-at : (q width o p i : ℕ) → At q ≡ At o → At 7 ≡ At p → Among o width i → Among p 3 i → (q + width ≤ 7) ⊎ (10 ≤ q) → ⊥
 apart-at q width o p i at at′ a b h =
     let e : q ≡ o = cc in
@@ -300,8 +300,8 @@ apart-at q width o p i at at′ a b h =
 
 pub words : WordsApart narrowed widened
 unfolding lookup wordAt placeOf widthAt shapeAt shapeOf
-words zero zero o p i h k at at′ a b = apart-at 6 1 o p i at at′ a b (inl (omega arith))
-words (suc zero) zero o p i h k at at′ a b = apart-at 10 2 o p i at at′ a b (inr (omega arith))
+words zero zero o p i h k at at′ a b = apart-at 10 2 o p i at at′ a b (inr (omega arith))
+words (suc zero) zero o p i h k at at′ a b = apart-at 6 1 o p i at at′ a b (inl (omega arith))
 words (suc (suc x)) zero o p i h k at at′ a b = absurd (omega arith)
 words x (suc l) o p i h k at at′ a b = absurd (omega arith)
 
@@ -364,12 +364,12 @@ module _ (r₁ r₂ r₃ r₄ r₅ r₆ r₇ r₈ : Got) (h g h′ g′ : List F
     flat-keeps-row = settled .gradient 5 (omega arith) flat is-flat (inl (omega arith, omega arith));
     nowhere-costs = settled .booked .answers _ (inr (inr (inr (inr (inl refl)))));
     narrowed-costs = settled .booked .answers _ (inr (inr (inr (inr (inr (inl refl))))));
-    narrowed-adds = settled .hessian 6 6 (omega arith) (omega arith) narrowed is-narrowed (inl ((omega arith, omega arith), (omega arith, omega arith)));
-    narrowed-pulls = settled .gradient 6 (omega arith) narrowed is-narrowed (inl (omega arith, omega arith));
+    narrowed-adds = settled .hessian 6 6 (omega arith) (omega arith) narrowed is-narrowed (inr (inl ((omega arith, omega arith), (omega arith, omega arith))));
+    narrowed-pulls = settled .gradient 6 (omega arith) narrowed is-narrowed (inr (inl (omega arith, omega arith)));
     narrowed-ends = settled .booked .hessian-kept 6 7 (omega arith) (omega arith) (every-in _ worksOf narrowed-ends-none);
-    untransformed-adds = settled .hessian 10 10 (omega arith) (omega arith) narrowed is-narrowed (inr (inl ((omega arith, omega arith), (omega arith, omega arith))));
-    untransformed-adds-beside = settled .hessian 11 10 (omega arith) (omega arith) narrowed is-narrowed (inr (inl ((omega arith, omega arith), (omega arith, omega arith))));
-    untransformed-pulls = settled .gradient 11 (omega arith) narrowed is-narrowed (inr (inl (omega arith, omega arith)));
+    untransformed-adds = settled .hessian 10 10 (omega arith) (omega arith) narrowed is-narrowed (inl ((omega arith, omega arith), (omega arith, omega arith)));
+    untransformed-adds-beside = settled .hessian 11 10 (omega arith) (omega arith) narrowed is-narrowed (inl ((omega arith, omega arith), (omega arith, omega arith)));
+    untransformed-pulls = settled .gradient 11 (omega arith) narrowed is-narrowed (inl (omega arith, omega arith));
     widened-costs = settled .booked .answers _ (inr (inr (inr (inr (inr (inr (inl refl)))))));
     widened-adds = settled .hessian 7 9 (omega arith) (omega arith) widened is-widened (inl ((omega arith, omega arith), (omega arith, omega arith)));
     widened-adds-last = settled .hessian 9 9 (omega arith) (omega arith) widened is-widened (inl ((omega arith, omega arith), (omega arith, omega arith)));

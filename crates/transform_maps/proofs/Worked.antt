@@ -1,9 +1,10 @@
 -- The multiplying call on maps of two words, and its refusals, by computation. The numbers were worked out on paper. Assumes nothing.
 use Prim.Native.Nat.{ℕ}
 use mathlib.Core.Path.{_≡_, refl}
-use mathlib.Core.List.{List, [], _∷_, _++_}
+use mathlib.Core.Bool.{true, false}
+use mathlib.Core.List.{List, [], _∷_, _++_, map}
 use lib.ListN.{replicate}
-use lib.Ieee.{Float, binary64, ofBits, mul}
+use lib.Ieee.{Float, binary64, ofBits, add, mul}
 use Rattle.sums.specs.Sum.{zeroF}
 use Rattle.normal_blocks.specs.Somewhere.{somewhere}
 use Rattle.normal_blocks.specs.Map.{badWord, badWordAt, badWords}
@@ -58,6 +59,18 @@ pub row-numbers : newTransforms (row 0)
 unfolding replaced orElse shapeAt shapeOf newlyMade chained entryFrom ofBits mul
 row-numbers = refl
 
+-- ---- a product over three rows: rising index, as 2^53 + 1 + 1 is 2^53 and 1 + 1 + 2^53 would be 2^53 + 2; and from the first product, so that -0 stays
+abbrev entries : List ℕ → ℕ → ℕ → Float
+entries ps r c = entryFrom (map (ofBits binary64) ps) 0 1 r c
+
+pub chained-rising : chained 3 (entries (0x4340_0000_0000_0000 ∷ 0x3ff0_0000_0000_0000 ∷ 0x3ff0_0000_0000_0000 ∷ [])) (λ k c. one) 0 0 ≡ ofBits binary64 0x4340_0000_0000_0000
+unfolding chained entryFrom ofBits add mul
+chained-rising = refl
+
+pub chained-minus-zero : chained 1 (λ r k. ofBits binary64 0x8000_0000_0000_0000) (λ k c. one) 0 0 ≡ ofBits binary64 0x8000_0000_0000_0000
+unfolding chained ofBits mul
+chained-minus-zero = refl
+
 -- a place past the map's end changes no word
 pub past-shapes : newShapes (row 2) ≡ 1 ∷ 2 ∷ NO_TRANSFORM ∷ NO_TRANSFORM ∷ []
 unfolding replaced orElse
@@ -87,3 +100,45 @@ three-first = refl
 pub nine-first : transformRefusal (alone (0 ∷ 0xFFFF_FFFF ∷ []) 1 (3 ∷ 1 ∷ [])) 4 162 ≡ 9
 unfolding transformRefusal badSlices badBeside badWords badWordAt badWord somewhere someWide wideAt tooWide badFurther misfit unchained shapeAt shapeOf
 nine-first = refl
+
+-- 1 before 3
+pub one-first : transformRefusal (record { dof = 10; map = 0 ∷ []; shapes = 1 ∷ []; transforms = []; place = 0; further-shape = 2 ∷ 1 ∷ []; further = further }) 2 81 ≡ 1
+unfolding transformRefusal
+one-first = refl
+
+-- 3: at most 1,024 words; shapes and numbers go together; the further one has two words and 81 numbers; the outputs have room for all words
+pub most-words : badSlices 1024 0 0 2 81 2048 82944 ≡ false
+unfolding badSlices badBeside
+most-words = refl
+
+pub too-many-words : badSlices 1025 0 0 2 81 2050 83025 ≡ true
+unfolding badSlices badBeside
+too-many-words = refl
+
+pub numbers-alone : badSlices 1 0 81 2 81 2 81 ≡ true
+unfolding badSlices badBeside
+numbers-alone = refl
+
+pub shapes-alone : badSlices 1 2 0 2 81 2 81 ≡ true
+unfolding badSlices badBeside
+shapes-alone = refl
+
+-- 14: a word of ten columns, at the place or not; a further one with more columns than the old one has rows, and with fewer; rows of another word are not tested
+abbrev between : List ℕ → List ℕ → Work
+between shapes shape = record { dof = 2; map = 0 ∷ 2 ∷ []; shapes = shapes; transforms = before; place = 0; further-shape = shape; further = further }
+
+pub ten-columns : transformRefusal (between (1 ∷ 2 ∷ 2 ∷ 10 ∷ []) (2 ∷ 1 ∷ [])) 4 162 ≡ 14
+unfolding transformRefusal badSlices badBeside badWords badWordAt badWord somewhere someWide wideAt tooWide badFurther misfit unchained shapeAt shapeOf
+ten-columns = refl
+
+pub nine-columns : transformRefusal (between (1 ∷ 9 ∷ 7 ∷ 9 ∷ []) (2 ∷ 1 ∷ [])) 4 162 ≡ 0
+unfolding transformRefusal badSlices badBeside badWords badWordAt badWord somewhere someWide wideAt tooWide badFurther misfit unchained shapeAt shapeOf
+nine-columns = refl
+
+pub more-columns : transformRefusal (between (1 ∷ 2 ∷ 2 ∷ 1 ∷ []) (2 ∷ 2 ∷ [])) 4 162 ≡ 14
+unfolding transformRefusal badSlices badBeside badWords badWordAt badWord somewhere someWide wideAt tooWide badFurther misfit unchained shapeAt shapeOf
+more-columns = refl
+
+pub fewer-columns : transformRefusal (between (2 ∷ 2 ∷ 2 ∷ 1 ∷ []) (2 ∷ 1 ∷ [])) 4 162 ≡ 14
+unfolding transformRefusal badSlices badBeside badWords badWordAt badWord somewhere someWide wideAt tooWide badFurther misfit unchained shapeAt shapeOf
+fewer-columns = refl
