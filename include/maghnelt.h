@@ -23,7 +23,7 @@ extern "C" {
 #define MAGHNELT_DECOMPOSITION 12 /* three eigenvalues, then their three vectors */
 #define MAGHNELT_MATCH 8          /* point (3), normal (3), offset, sigma */
 #define MAGHNELT_PLANE 4          /* normal (3), offset */
-#define MAGHNELT_TRANSFORM 81     /* a matrix of up to 9 by 9, its columns first; what lies behind them is not read */
+#define MAGHNELT_TRANSFORM 81     /* a matrix of up to 9 by 9, its columns first; no answer depends on what lies behind them */
 
 /* The most that one call takes. */
 #define MAGHNELT_MAX_DOF 9        /* columns of an action's derivatives, and of a transform */

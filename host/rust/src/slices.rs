@@ -229,8 +229,8 @@ pub fn remap(map: &[u32], list: &[u32], out: &mut [u32]) -> Result<(), Refusal> 
 /// place past the map's end changes no word.
 ///
 /// A word's shape is its transform's rows and columns, both [`NO_TRANSFORM`](crate::NO_TRANSFORM) for none, and
-/// `further_shape` is the further one's. T(r, c) is number rows·c + r of the [`TRANSFORM`](crate::TRANSFORM) numbers; those
-/// behind its last column are not read.
+/// `further_shape` is the further one's. T(r, c) is number rows·c + r of the [`TRANSFORM`](crate::TRANSFORM) numbers; no
+/// answer depends on those behind its last column.
 ///
 /// # Errors
 ///
