@@ -24,7 +24,7 @@ three = ofBits binary64 0x4008_0000_0000_0000
 abbrev five : Float
 five = ofBits binary64 0x4014_0000_0000_0000
 
--- (1,2)ᵀ, and numbers behind it that no one reads
+-- (1,2)ᵀ, and numbers behind it on which nothing depends
 abbrev further : List Float
 further = one ∷ two ∷ replicate 79 five
 
