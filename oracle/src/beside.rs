@@ -15,14 +15,27 @@ pub struct Beside {
 }
 
 impl Beside {
-    /// Beside so many words: some have a transform of these rows, others none.
+    /// Beside so many words: some have a transform of these rows, others none. In half of them a word mostly has the shape of
+    /// the word before it, since frames of one shape are added together.
     pub fn random(words: usize, rows: u32, generator: &mut Generator) -> Beside {
         let mut beside = Beside::default();
+        let in_runs = generator.below(2) == 0;
+        let mut last = None;
         for _ in 0..words {
-            let shape = match generator.below(4) {
-                0 => NO_SHAPE,
-                _ => [rows, some_columns(generator)],
+            let shape = match (last, generator.below(4)) {
+                (Some(shape), 1..) if in_runs => shape,
+                _ => some_shape(rows, generator),
             };
+            beside.push(shape, generator);
+            last = Some(shape);
+        }
+        beside
+    }
+
+    /// Beside so many words that all have that shape.
+    pub fn of_shape(words: usize, shape: Shape, generator: &mut Generator) -> Beside {
+        let mut beside = Beside::default();
+        for _ in 0..words {
             beside.push(shape, generator);
         }
         beside
@@ -102,6 +115,14 @@ impl Beside {
 /// A number of columns that is allowed.
 pub fn some_columns(generator: &mut Generator) -> u32 {
     generator.below(1 + u64::from(MAX_COLUMNS)) as u32
+}
+
+/// The shape of a transform of so many rows, or none.
+fn some_shape(rows: u32, generator: &mut Generator) -> Shape {
+    match generator.below(4) {
+        0 => NO_SHAPE,
+        _ => [rows, some_columns(generator)],
+    }
 }
 
 /// The 81 numbers of a transform of that shape, behind its entries any patterns. For a shape that is none, or not allowed, all

@@ -270,7 +270,21 @@ pub fn each_turning_transform(
     }
 }
 
-/// The same at the limits of a map and of a Hessian.
+/// Runs of one to five frames that all have one shape, of six rows and each number of columns.
+pub fn each_run(
+    generator: &mut Generator,
+    mut check: impl FnMut(usize, Destination, &mut Generator),
+) {
+    for columns in 0..=MAX_COLUMNS {
+        for frames in 1..=5 {
+            let beside = Beside::of_shape(frames + MORE_WORDS, [6, columns], generator);
+            let target = Destination::with_beside(beside, 6, frames, generator);
+            check(frames, target, generator);
+        }
+    }
+}
+
+/// Goes through destinations of a call with transforms at the limits of a map and of a Hessian.
 pub fn each_largest_transform(
     generator: &mut Generator,
     mut check: impl FnMut(Destination, &mut Generator),

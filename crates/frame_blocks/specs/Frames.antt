@@ -14,8 +14,7 @@ use Rattle.lists.specs.Part.{_!_}
 use Rattle.terms.specs.Terms.{addAll, upto}
 use Rattle.terms.specs.Laws.{upto-none, upto-joined}
 use Rattle.normal_blocks.specs.declared.Place.{Place}
-use Rattle.normal_blocks.specs.Map.{lookup, exceeds, exceedsAt, someExceeds}
-use Rattle.normal_blocks.specs.Somewhere.{nowhere-none, nowhere-more}
+use Rattle.normal_blocks.specs.Map.{lookup, exceeds, someExceeds}
 use Rattle.normal_blocks.specs.Laws.{lookup-past, fits}
 use Rattle.normal_blocks.specs.TargetLaws.{hessian-mapped, gradient-mapped, hessian-unmapped, gradient-unmapped, hessian-same, gradient-same}
 use Rattle.normal_blocks.specs.declared.Place.the-variants.{At, Unmapped}
@@ -49,6 +48,14 @@ pub record Ready (cells order dof : ℕ) (frames actions : List Float) (map : Li
   pub acted : actionSize * frameCount frames ≤ length actions
   pub fits : someExceeds order (λ k. dof) (lookup map) (frameCount frames) ≡ false
 
+-- the same of the first `count` frames of the lists
+pub record RunReady (cells order dof : ℕ) (frames actions : List Float) (map : List ℕ) (count : ℕ) : Type 0 where
+  pub narrow : dof ≤ 9
+  pub square : cells ≡ order * order
+  pub held : count ≤ frameCount frames
+  pub acted : actionSize * count ≤ length actions
+  pub fits : (k : ℕ) → k < count → exceeds order dof (lookup map k) ≡ false
+
 -- one frame with a pull, at the place p: what it adds there
 pub record FrameAdded (x : List Float) (f : Centred) (n : List Float) (s : Pull) (weight : Float) (order dof : ℕ) (p : Place) (h h′ g g′ : List Float) : Type 0 where
   pub hessian : h′ ≡ addAll h (hessianAt order dof p (blockEntry x f n weight))
@@ -81,10 +88,10 @@ pub record FirstAdded (order : ℕ) (f : Frames) (costs : ℕ → Float) (k : �
   pub hessian : h′ ≡ addAll h (upto k (frameHessian order f))
   pub gradient : g′ ≡ addAll g (upto k (frameGradient f))
 
--- the loop over a call's frames
-abbrev pub Summed : ℕ → ℕ → List Float → List Float → List ℕ → List Float → Float → Float → ℕ → Float → List Float → List Float → List Float → List Float → Type 0
-Summed order dof frames actions map n offset weight k s h h′ g g′ =
-    FirstAdded order (framesUnder dof frames actions map n offset weight) (costAt frames actions n offset weight) k zeroF s h h′ g g′
+-- the first `count` frames of the lists, their costs added to the number `start`
+abbrev pub RunAdded : ℕ → ℕ → List Float → List Float → List ℕ → List Float → Float → Float → ℕ → Float → Float → List Float → List Float → List Float → List Float → Type 0
+RunAdded order dof frames actions map n offset weight count start r h h′ g g′ =
+    FirstAdded order (framesUnder dof frames actions map n offset weight) (costAt frames actions n offset weight) count start r h h′ g g′
 
 -- all frames of a batch, by their pulls and by their parts
 abbrev pub BatchAdded : ℕ → ℕ → List Float → List Float → List ℕ → List Float → Float → List Float → ℕ → ℕ → Float → Float → List Float → List Float → List Float → List Float → Type 0
@@ -165,38 +172,51 @@ all-added order f frames actions n offset weight fixed count s r h h′ g g′ e
 }
 
 module _ (order dof : ℕ) (frames actions : List Float) (map : List ℕ) where
-  -- what a call that is ready has at each frame, the two slices being as long as they were
-  module _ (cells : ℕ) (ready : Ready cells order dof frames actions map) where
-    pub ready-fits : (rows k : ℕ) (p : Place) → rows ≡ order → p ≡ lookup map k → k < frameCount frames → exceeds rows dof p ≡ false
-    ready-fits rows k p e at l = rw (e, at) (fits order (λ k. dof) (lookup map) (frameCount frames) (ready .fits) k l)
+  -- a call that is ready is so for all its frames
+  pub ready-run : (cells count : ℕ) → count ≡ frameCount frames → Ready cells order dof frames actions map → RunReady cells order dof frames actions map count
+  ready-run cells count e ready = rw e (record {
+    narrow = ready .narrow;
+    square = ready .square;
+    held = omega arith;
+    acted = ready .acted;
+    fits = fits order (λ k. dof) (lookup map) (frameCount frames) (ready .fits);
+  })
 
-    -- none of the first frames exceeds, however many they are
-    pub ready-upto : (rows to : ℕ) → rows ≡ order → to ≤ frameCount frames → someExceeds rows (λ k. dof) (lookup map) to ≡ false
-    unfolding someExceeds exceedsAt
-    ready-upto rows zero e l = nowhere-none (exceedsAt rows (λ k. dof) (lookup map))
-    ready-upto rows (suc to) e l =
-        rw (add-one to) at (nowhere-more (exceedsAt rows (λ k. dof) (lookup map)) to (ready-upto rows to e (omega arith)) (ready-fits rows to (lookup map to) e refl l))
+  -- what a run that is ready has at each frame, the two slices being as long as they were
+  module _ (cells count : ℕ) (ready : RunReady cells order dof frames actions map count) where
+    pub run-fits : (rows k : ℕ) (p : Place) → rows ≡ order → p ≡ lookup map k → k < count → exceeds rows dof p ≡ false
+    run-fits rows k p e at l = rw (e, at) (ready .fits k l)
 
-    pub ready-held : (k : ℕ) → k < frameCount frames → Held frames actions k
-    ready-held k l = record { frame = omega arith; action = omega (arith, ready .acted) }
+    pub run-held : (k : ℕ) → k < count → Held frames actions k
+    run-held k l = record { frame = omega (arith, ready .held); action = omega (arith, ready .acted) }
 
-    pub ready-square : (h g : ℕ) → h ≡ cells → g ≡ order → h ≡ g * g
-    ready-square h g e q = rw (e, q) (ready .square)
+    pub run-square : (h g : ℕ) → h ≡ cells → g ≡ order → h ≡ g * g
+    run-square h g e q = rw (e, q) (ready .square)
+
+    -- fewer frames are ready too
+    pub run-upto : (h g to : ℕ) → h ≡ cells → g ≡ order → to ≤ count → RunReady h g dof frames actions map to
+    run-upto h g to e q l = record {
+      narrow = ready .narrow;
+      square = run-square h g e q;
+      held = omega (arith, ready .held);
+      acted = omega (arith, ready .acted);
+      fits = λ k b. run-fits g k (lookup map k) q refl (omega arith);
+    }
 
   module _ (n : List Float) (offset weight : Float) where
     -- without a map no frame goes anywhere
-    pub summed-unmapped : (k : ℕ) (h g : List Float) → length map ≡ 0 → Summed order dof frames actions map n offset weight k (sumFromZero k (costAt frames actions n offset weight)) h h g g
-    summed-unmapped zero h g e = first-none order _ _ zeroF h g
-    summed-unmapped (suc k) h g e =
+    pub run-unmapped : (k : ℕ) (h g : List Float) → length map ≡ 0 → RunAdded order dof frames actions map n offset weight k zeroF (sumFromZero k (costAt frames actions n offset weight)) h h g g
+    run-unmapped zero h g e = first-none order _ _ zeroF h g
+    run-unmapped (suc k) h g e =
         let all = framesUnder dof frames actions map n offset weight in
         let nowhere : lookup map k ≡ Unmapped = sym (lookup-past map k (omega arith)) in
         rw (add-one k) at (first-more order all _ k (lookup map k) (all .block k) (all .vector k) _ zeroF _ h h h g g g refl (λ i j li lj. refl) (λ i li. refl) refl
-        (hessian-unmapped dof (lookup map k) nowhere order (all .block k) h) (gradient-unmapped dof (lookup map k) nowhere (all .vector k) g) (summed-unmapped k h g e))
+        (hessian-unmapped dof (lookup map k) nowhere order (all .block k) h) (gradient-unmapped dof (lookup map k) nowhere (all .vector k) g) (run-unmapped k h g e))
 
     pub all-alone : (fixed : List Float) (count : ℕ) (s r : Float) (h g : List Float) → count ≡ frameCount frames → length map ≡ 0
         → s ≡ sumFromZero count (costAt frames actions n offset weight) → r ≡ andFixed fixed (λ f. fixedCost f n offset weight) s
         → AllAdded order dof frames fixed actions map n offset weight r h h g g
-    all-alone fixed count s r h g e none q p = all-added order _ frames actions n offset weight fixed count s r h h g g e p (rw q (summed-unmapped count h g none))
+    all-alone fixed count s r h g e none q p = all-added order _ frames actions n offset weight fixed count s r h h g g e p (rw q (run-unmapped count h g none))
 
   -- a batch by its pulls: one frame more, and the call's frames with it
   module _ (n : List Float) (weight : Float) (cells : List Float) (from size : ℕ) where
@@ -218,11 +238,11 @@ module _ (order dof : ℕ) (frames actions : List Float) (map : List ℕ) where
       cost = λ k l. ap (λ (q : Pull). q .cost) (pulled .pulls k l);
     }
 
-    pub batch-added : (offset : Float) (rows : ℕ) (s r : Float) (h₀ h h′ g₀ g g′ : List Float) → rows ≡ order → Pulled frames actions n offset weight from size cells
-        → BatchAdded rows dof frames actions map n weight cells from size s r h h′ g g′ → Summed order dof frames actions map n offset weight from s h₀ h g₀ g
-        → Summed order dof frames actions map n offset weight (from + size) r h₀ h′ g₀ g′
-    batch-added offset rows s r h₀ h h′ g₀ g g′ e pulled added before =
-        first-joined order _ _ _ _ from size zeroF s r h₀ h h′ g₀ g g′ (batch-continues offset pulled) (rw e at added) before
+    pub batch-added : (offset : Float) (rows : ℕ) (s₀ s r : Float) (h₀ h h′ g₀ g g′ : List Float) → rows ≡ order → Pulled frames actions n offset weight from size cells
+        → BatchAdded rows dof frames actions map n weight cells from size s r h h′ g g′ → RunAdded order dof frames actions map n offset weight from s₀ s h₀ h g₀ g
+        → RunAdded order dof frames actions map n offset weight (from + size) s₀ r h₀ h′ g₀ g′
+    batch-added offset rows s₀ s r h₀ h h′ g₀ g g′ e pulled added before =
+        first-joined order _ _ _ _ from size s₀ s r h₀ h h′ g₀ g g′ (batch-continues offset pulled) (rw e at added) before
 
 -- the numbers of a part are its frame's block, vector and cost
 module _ (x : List Float) (f : Centred) (n : List Float) (offset weight : Float) where
@@ -277,8 +297,8 @@ module _ (order : ℕ) (map : List ℕ) (cells : List Float) (from size : ℕ) w
     cost = λ k l. ap (λ l. l ! 12) (beside .each k l) ∙ part-cost (actionAt actions (from + k)) (frameAt frames (from + k)) n offset weight;
   }
 
-  pub parts-added : (frames actions n : List Float) (offset weight : Float) (rows : ℕ) (s r : Float) (h₀ h h′ g₀ g g′ : List Float) → rows ≡ order
+  pub parts-added : (frames actions n : List Float) (offset weight : Float) (rows : ℕ) (s₀ s r : Float) (h₀ h h′ g₀ g g′ : List Float) → rows ≡ order
       → Beside BATCH PART (λ k. partAt frames actions n offset weight (from + k)) size cells → PartsAdded rows map cells from size s r h h′ g g′
-      → Summed order 3 frames actions map n offset weight from s h₀ h g₀ g → Summed order 3 frames actions map n offset weight (from + size) r h₀ h′ g₀ g′
-  parts-added frames actions n offset weight rows s r h₀ h h′ g₀ g g′ e beside added before =
-      first-joined order _ _ _ _ from size zeroF s r h₀ h h′ g₀ g g′ (parts-continue frames actions n offset weight beside) (rw e at added) before
+      → RunAdded order 3 frames actions map n offset weight from s₀ s h₀ h g₀ g → RunAdded order 3 frames actions map n offset weight (from + size) s₀ r h₀ h′ g₀ g′
+  parts-added frames actions n offset weight rows s₀ s r h₀ h h′ g₀ g g′ e beside added before =
+      first-joined order _ _ _ _ from size s₀ s r h₀ h h′ g₀ g g′ (parts-continue frames actions n offset weight beside) (rw e at added) before

@@ -7,15 +7,15 @@ use point_moments::scatter::Centred;
 ghost use mathlib.Core.Path.{_≡_};
 ghost use mathlib.Core.Bool.{false};
 ghost use mathlib.Core.Logic.{_⊎_};
-ghost use Prim.Native.Nat.{_+_, _*_, _^_, _≤_, _<_};
+ghost use Prim.Native.Nat.{ℕ, _+_, _*_, _^_, _≤_, _<_};
 ghost use lib.ListN.{length};
 ghost use Rattle.derivative.specs.Action.{actionSize};
 ghost use Rattle.point_moments.specs.Scatter.{CENTRED};
-ghost use Rattle.normal_blocks.specs.Map.{lookup, exceeds, someExceeds};
-ghost use Rattle.plane_fit.specs.Fit.{frameCount, frameAt, actionAt};
+ghost use Rattle.normal_blocks.specs.Map.{lookup, exceeds};
+ghost use Rattle.plane_fit.specs.Fit.{frameAt, actionAt};
 ghost use Rattle.frame_segment.specs.Steps.{Held};
 ghost use Rattle.frame_blocks.specs.Pulls.{BATCH, PULLS, pullIn, withPull, Pulled};
-ghost use Rattle.frame_blocks.specs.Frames.{Ready, FrameAdded, Summed, BatchAdded, PartsAdded, AllAdded};
+ghost use Rattle.frame_blocks.specs.Frames.{Ready, RunReady, FrameAdded, BatchAdded, PartsAdded, RunAdded, AllAdded};
 
 // One frame: its block and vector are added if it has a place.
 fn add_frame(
@@ -126,7 +126,7 @@ fn add_batch(
     pulls: &[f64; 20],
     sum: f64,
 ) -> f64
-    requires { ⌜ (size ≤ BATCH) × (from + size ≤ frameCount (now frames)) × Ready (length (now h)) (length (now g)) dof (now frames) (now actions) (now map) ⌝ }
+    requires { ⌜ (size ≤ BATCH) × RunReady (length (now h)) (length (now g)) dof (now frames) (now actions) (now map) (from + size) ⌝ }
     ensures { λ r. ⌜ BatchAdded (length (now (g .entry))) dof (now (frames .entry)) (now (actions .entry)) (now (map .entry)) normal weight (now (pulls .entry)) from size sum r (now (h .entry)) (now (h .exit)) (now (g .entry)) (now (g .exit)) ⌝ }
 {
     let mut s = sum;
@@ -161,11 +161,12 @@ fn add_frames(
     offset: f64,
     weight: f64,
     count: usize,
+    start: f64,
 ) -> f64
-    requires { ⌜ (count ≡ frameCount (now frames)) × Ready (length (now h)) (length (now g)) dof (now frames) (now actions) (now map) ⌝ }
-    ensures { λ r. ⌜ Summed (length (now (g .entry))) dof (now (frames .entry)) (now (actions .entry)) (now (map .entry)) normal offset weight count r (now (h .entry)) (now (h .exit)) (now (g .entry)) (now (g .exit)) ⌝ }
+    requires { ⌜ RunReady (length (now h)) (length (now g)) dof (now frames) (now actions) (now map) count ⌝ }
+    ensures { λ r. ⌜ RunAdded (length (now (g .entry))) dof (now (frames .entry)) (now (actions .entry)) (now (map .entry)) normal offset weight count start r (now (h .entry)) (now (h .exit)) (now (g .entry)) (now (g .exit)) ⌝ }
 {
-    let mut sum = 0.0;
+    let mut sum = start;
     let mut p = [0.0; 20];
     let mut from = 0;
     while from < count {
@@ -200,7 +201,7 @@ fn add_parts(
     cells: &[f64; 52],
     sum: f64,
 ) -> f64
-    requires { ⌜ (size ≤ BATCH) × (from + size < 2 ^ 64) × (length (now h) ≡ length (now g) * length (now g)) × (someExceeds (length (now g)) (λ k. 3) (lookup (now map)) (from + size) ≡ false) ⌝ }
+    requires { ⌜ (size ≤ BATCH) × (from + size < 2 ^ 64) × (length (now h) ≡ length (now g) * length (now g)) × ((k : ℕ) → k < from + size → exceeds (length (now g)) 3 (lookup (now map) k) ≡ false) ⌝ }
     ensures { λ r. ⌜ PartsAdded (length (now (g .entry))) (now (map .entry)) (now (cells .entry)) from size sum r (now (h .entry)) (now (h .exit)) (now (g .entry)) (now (g .exit)) ⌝ }
 {
     let n = g.len();
@@ -228,20 +229,21 @@ fn add_threes(
     offset: f64,
     weight: f64,
     count: usize,
+    start: f64,
 ) -> f64
-    requires { ⌜ (count ≡ frameCount (now frames)) × Ready (length (now h)) (length (now g)) 3 (now frames) (now actions) (now map) ⌝ }
-    ensures { λ r. ⌜ Summed (length (now (g .entry))) 3 (now (frames .entry)) (now (actions .entry)) (now (map .entry)) normal offset weight count r (now (h .entry)) (now (h .exit)) (now (g .entry)) (now (g .exit)) ⌝ }
+    requires { ⌜ RunReady (length (now h)) (length (now g)) 3 (now frames) (now actions) (now map) count ⌝ }
+    ensures { λ r. ⌜ RunAdded (length (now (g .entry))) 3 (now (frames .entry)) (now (actions .entry)) (now (map .entry)) normal offset weight count start r (now (h .entry)) (now (h .exit)) (now (g .entry)) (now (g .exit)) ⌝ }
 {
-    let mut sum = 0.0;
+    let mut s = start;
     let mut c = [0.0; 52];
     let mut from = 0;
     while from < count {
         let size = lists::batch_size(count, from, frame_parts::BATCH);
         frame_parts::fill_parts(frames, actions, from, size, normal, offset, weight, &mut c);
-        sum = add_parts(h, g, map, from, size, &c, sum);
+        s = add_parts(h, g, map, from, size, &c, s);
         from = from + size;
     }
-    sum
+    s
 }
 
 // Whether each of the frames has a word in the map, and none says that its frame is unmapped. Either way to add them is right: this one tells which is faster.
@@ -254,6 +256,52 @@ fn all_mapped(map: &[u32], count: usize) -> bool {
         bits = bits | map[k];
     }
     bits < 0x4000_0000
+}
+
+// The first `count` frames of the lists, added as they are: the sum with their costs is the answer.
+pub fn add_run(
+    h: &mut [f64],
+    g: &mut [f64],
+    dof: usize,
+    frames: &[f64],
+    actions: &[f64],
+    map: &[u32],
+    normal: [f64; 3],
+    offset: f64,
+    weight: f64,
+    count: usize,
+    start: f64,
+) -> f64
+    requires { ⌜ RunReady (length (now h)) (length (now g)) dof (now frames) (now actions) (now map) count ⌝ }
+    ensures { λ r. ⌜ RunAdded (length (now (g .entry))) dof (now (frames .entry)) (now (actions .entry)) (now (map .entry)) normal offset weight count start r (now (h .entry)) (now (h .exit)) (now (g .entry)) (now (g .exit)) ⌝ }
+{
+    if dof == 3 && all_mapped(map, count) {
+        return add_threes(
+            h,
+            g,
+            frames,
+            actions,
+            map,
+            normal,
+            offset,
+            weight,
+            count,
+            start,
+        );
+    }
+    add_frames(
+        h,
+        g,
+        dof,
+        frames,
+        actions,
+        map,
+        normal,
+        offset,
+        weight,
+        count,
+        start,
+    )
 }
 
 // All frames of a call under a plane: each one's block and vector are added where the map says, and the cost, with the fixed set's, is the answer.
@@ -278,11 +326,7 @@ pub fn add_all(
         let alone = frame_cost::frames_cost(frames, actions, normal, offset, weight, count);
         return frame_cost::with_fixed(alone, fixed, normal, offset, weight);
     }
-    if dof == 3 && all_mapped(map, count) {
-        let threes = add_threes(h, g, frames, actions, map, normal, offset, weight, count);
-        return frame_cost::with_fixed(threes, fixed, normal, offset, weight);
-    }
-    let sum = add_frames(
+    let sum = add_run(
         h,
         g,
         dof,
@@ -293,6 +337,7 @@ pub fn add_all(
         offset,
         weight,
         count,
+        0.0,
     );
     frame_cost::with_fixed(sum, fixed, normal, offset, weight)
 }

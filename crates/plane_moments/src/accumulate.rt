@@ -66,7 +66,7 @@ fn refusal(
 }
 
 // What a call that is not refused adds, and its cost: under the fitted plane, or nothing and 0 where there is none.
-pub fn add_fitted(
+fn add_fitted(
     dof: u32,
     frames: &[f64],
     fixed: &[f64],

@@ -1,41 +1,41 @@
 -- Laws of frames that are added through transforms: one frame, a loop over them, and the call. Assumes nothing.
-use Prim.Native.Nat.{ℕ, _+_, _*_, _<_}
+use Prim.Native.Nat.{ℕ, zero, suc, _+_, _*_, _<_}
+use native.Mathlib.Numerals.{add-one}
 use native.Mathlib.Omega.{arith}
 use mathlib.Core.Path.{_≡_, refl, sym, ap, _∙_}
 use mathlib.Core.Bool.{false}
-use mathlib.Core.Logic.{⊎-elim}
 use mathlib.Core.List.{List, [], _∷_}
 use lib.ListN.{length}
 use lib.Ieee.{Float}
-use Rattle.sums.specs.Sum.{_⊕_}
+use Rattle.sums.specs.Sum.{_⊕_, zeroF, sumFromZero}
 use Rattle.terms.specs.Terms.{addAll}
 use Rattle.terms.specs.Laws.{block-same, segment-same}
 use Rattle.normal_blocks.specs.declared.Place.{Place}
 use Rattle.normal_blocks.specs.declared.Place.the-variants.{At, Unmapped}
 use Rattle.normal_blocks.specs.Map.{lookup, exceeds}
-use Rattle.normal_blocks.specs.Laws.{fits}
+use Rattle.normal_blocks.specs.Laws.{lookup-past, fits}
 use Rattle.normal_blocks.specs.TargetLaws.{hessian-mapped, gradient-mapped, hessian-unmapped, gradient-unmapped}
 use Rattle.call_lists.specs.Accumulated.{Accumulated}
-use Rattle.block_transforms.specs.Transform.{Beside, without, ROOM, shapeAt, entryFrom, blockUnder, vectorUnder, widthUnder, widthAt}
-use Rattle.block_transforms.proofs.Laws.{beside-fits, transform-fits, every-fits, transform-there}
+use Rattle.block_transforms.specs.Transform.{Beside, ROOM, shapeAt, entryFrom, blockUnder, vectorUnder, widthUnder, widthAt}
+use Rattle.block_transforms.proofs.Laws.{transform-fits, every-fits, transform-there}
 use Rattle.block_transforms.specs.declared.Shape.{Shape}
 use Rattle.block_transforms.specs.declared.Shape.the-variants.{Absent, Sized}
 use Rattle.transform_products.specs.Rows.{rowsOf, spaced, AddedRows, AddedThrough}
 use Rattle.transform_products.proofs.Laws.{Tall, under-same, under-run}
 use Rattle.point_moments.specs.declared.scatter.Centred.{Centred}
-use Rattle.plane_fit.specs.Fit.{frameCount, frameAt, actionAt}
+use Rattle.plane_fit.specs.Fit.{frameCount, frameAt, actionAt, andFixed}
 use Rattle.plane_fit.specs.declared.axis.Fit.the-variants.{Plane}
 use Rattle.frame_segment.specs.Frame.{blockEntry, pulledEntry}
 use Rattle.frame_segment.specs.Steps.{Added, Held}
 use Rattle.frame_stored.specs.Stored.{FrameStored}
 use Rattle.frame_parts.specs.Frame.{vectorEntry}
-use Rattle.frame_cost.specs.Cost.{weightOf, frameCost, costAt}
+use Rattle.frame_cost.specs.Cost.{weightOf, frameCost, fixedCost, costAt}
 use Rattle.frame_cost.specs.declared.Pull.{Pull}
 use Rattle.frame_blocks.specs.Pulls.{pullAt}
-use Rattle.frame_blocks.specs.Frames.{first-more}
-use Rattle.plane_moments.specs.Accumulate.{FramesWork, transformedFramesRefusal, fitOf, transformedFramesCall, framesRefusal, framesCall}
+use Rattle.frame_blocks.specs.Frames.{first-none, first-more, all-added}
+use Rattle.plane_moments.specs.Accumulate.{FramesWork, transformedFramesRefusal, fitOf, transformedFramesCall}
 use Rattle.plane_moments.proofs.Accumulating.{accepted-call, plane-call}
-use Rattle.transformed_frames.specs.Frames.{throughUnder, There, Ready, FrameAdded, Summed, AllAdded}
+use Rattle.transformed_frames.specs.Frames.{throughUnder, There, Ready, FrameAdded, Continued, Summed, AllAdded}
 
 -- ---- stored numbers at row `at`, without a transform and with one
 module _ (order at dof stride : ℕ) (s : Shape) (t : List Float) (from : ℕ) (m h h′ g g′ : List Float) where
@@ -85,37 +85,35 @@ module _ (cells order dof : ℕ) (frames actions : List Float) (map shapes : Lis
   pub ready-square : (h g : ℕ) → h ≡ cells → g ≡ order → h ≡ g * g
   ready-square h g e q = rw (e, q) (ready .square)
 
--- ---- the loop: one frame more
-module _ (order dof : ℕ) (frames actions : List Float) (map shapes : List ℕ) (transforms n : List Float) (offset weight : Float) where
-  pub summed-more : (k rows : ℕ) (p : Place) (s : Shape) (q : Pull) (sum : Float) (h₀ h h′ g₀ g g′ : List Float) → rows ≡ order → p ≡ lookup map k → s ≡ shapeAt shapes k
+-- ---- the loop: nothing yet, and one frame more
+module _ (order dof : ℕ) (frames actions : List Float) (map shapes : List ℕ) (transforms n : List Float) (offset weight : Float) (from : ℕ) (start : Float) (h₀ g₀ : List Float) where
+  pub continued-none : Continued order dof frames actions map shapes transforms n offset weight from from start start h₀ h₀ g₀ g₀
+  continued-none s₀ h₁ g₁ before = before
+
+  pub continued-more : (k rows : ℕ) (p : Place) (s : Shape) (q : Pull) (sum : Float) (h h′ g g′ : List Float) → rows ≡ order → p ≡ lookup map k → s ≡ shapeAt shapes k
       → q ≡ pullAt frames actions n offset weight k
       → FrameAdded rows dof s (entryFrom transforms (ROOM * k)) p (blockEntry (actionAt actions k) (frameAt frames k) n weight) (pulledEntry (actionAt actions k) (frameAt frames k) n (q .turn) (q .shift) weight) h h′ g g′
-      → Summed order dof frames actions map shapes transforms n offset weight k sum h₀ h g₀ g → Summed order dof frames actions map shapes transforms n offset weight (k + 1) (sum ⊕ q .cost) h₀ h′ g₀ g′
+      → Continued order dof frames actions map shapes transforms n offset weight from k start sum h₀ h g₀ g
+      → Continued order dof frames actions map shapes transforms n offset weight from (k + 1) start (sum ⊕ q .cost) h₀ h′ g₀ g′
   unfolding costAt frameCost pullAt vectorEntry widthAt
-  summed-more k rows p s q sum h₀ h h′ g₀ g g′ el ep es eq a before =
-      first-more order (throughUnder dof frames actions map shapes transforms n offset weight) _ k p _ _ (q .cost) _ sum h₀ h h′ g₀ g g′ ep (λ i j li lj. refl) (λ i li. refl) (ap (λ (o : Pull). o .cost) eq)
-      (rw (el, es) at (a .hessian)) (rw (es, eq) at (a .gradient)) before
+  continued-more k rows p s q sum h h′ g g′ el ep es eq a so-far s₀ h₁ g₁ before =
+      first-more order (throughUnder dof frames actions map shapes transforms n offset weight) _ k p _ _ (q .cost) s₀ sum h₁ h h′ g₁ g g′ ep (λ i j li lj. refl) (λ i li. refl) (ap (λ (o : Pull). o .cost) eq)
+      (rw (el, es) at (a .hessian)) (rw (es, eq) at (a .gradient)) (so-far s₀ h₁ g₁ before)
 
--- ---- AN ACCEPTED CALL WITHOUT SHAPES has no numbers either: it is one that takes no transforms
-no-slices : (w : FramesWork) (shapes : List ℕ) (transforms : List Float) → length shapes ≡ 0 → length transforms ≡ 0 → record { work = w; shapes = shapes; transforms = transforms } ≡ without w
-no-slices w [] [] p q = refl
-no-slices w [] (x ∷ t) p q = absurd (omega (arith, q))
-no-slices w (k ∷ s) t p q = absurd (omega (arith, p))
+-- ---- without a map no frame goes anywhere
+module _ (order dof : ℕ) (frames actions : List Float) (map shapes : List ℕ) (transforms n : List Float) (offset weight : Float) where
+  unmapped : (k : ℕ) (h g : List Float) → length map ≡ 0 → Summed order dof frames actions map shapes transforms n offset weight k (sumFromZero k (costAt frames actions n offset weight)) h h g g
+  unmapped zero h g e = first-none order _ _ zeroF h g
+  unmapped (suc k) h g e =
+      let all = throughUnder dof frames actions map shapes transforms n offset weight in
+      let nowhere : lookup map k ≡ Unmapped = sym (lookup-past map k (omega arith)) in
+      rw (add-one k) at (first-more order all _ k (lookup map k) (all .block k) (all .vector k) _ zeroF _ h h h g g g refl (λ i j li lj. refl) (λ i li. refl) refl
+      (hessian-unmapped (all .layout .width k) (lookup map k) nowhere order (all .block k) h) (gradient-unmapped (all .layout .width k) (lookup map k) nowhere (all .vector k) g) (unmapped k h g e))
 
-module _ (m n : ℕ) (b : Beside FramesWork) (e : transformedFramesRefusal m n b ≡ 0) (none : length (b .shapes) ≡ 0) where
-  is-plain : b ≡ without (b .work)
-  is-plain =
-      no-slices (b .work) (b .shapes) (b .transforms) none
-      (⊎-elim (λ p. p .1) (λ p. omega (arith, none, p .0, p .1)) (beside-fits (length (b .work .map)) (length (b .shapes)) (length (b .transforms)) (accepted-call m n b e .slices)))
-
-  pub plain-accepted : framesRefusal m n (b .work) ≡ 0
-  plain-accepted = sym (ap (transformedFramesRefusal m n) is-plain) ∙ e
-
-  same-call : transformedFramesCall m n b ≡ framesCall m n (b .work)
-  same-call = ap (transformedFramesCall m n) is-plain
-
-  pub plain-added : (h g : List Float) (x r : Float) (h′ g′ : List Float) → Accumulated (framesCall m n (b .work)) h g x 0 h′ g′ r → Accumulated (transformedFramesCall m n b) h g x 0 h′ g′ r
-  plain-added h g x r h′ g′ a = rw same-call a
+  pub all-alone : (fixed : List Float) (count : ℕ) (s r : Float) (h g : List Float) → count ≡ frameCount frames → length map ≡ 0
+      → s ≡ sumFromZero count (costAt frames actions n offset weight) → r ≡ andFixed fixed (λ f. fixedCost f n offset weight) s
+      → AllAdded order dof frames fixed actions map shapes transforms n offset weight r h h g g
+  all-alone fixed count s r h g e none q p = all-added order _ frames actions n offset weight fixed count s r h h g g e p (rw q (unmapped count h g none))
 
 -- ---- an accepted call: what its work may rely on, and what it has done with a plane
 pub ready-call : (m n : ℕ) (b : Beside FramesWork) → transformedFramesRefusal m n b ≡ 0 → Ready m n (b .work .dof) (b .work .frames) (b .work .actions) (b .work .map) (b .shapes) (b .transforms)

@@ -1,5 +1,5 @@
 -- The frames of a call, each added through the transform of its word: what the work may rely on, and what it leaves. Definitions only.
-use Prim.Native.Nat.{ℕ, _+_, _*_, _≤_}
+use Prim.Native.Nat.{ℕ, _+_, _*_, _≤_, _<_}
 use mathlib.Core.Path.{_≡_}
 use mathlib.Core.Bool.{false}
 use mathlib.Core.List.{List}
@@ -36,6 +36,17 @@ pub record Ready (cells order dof : ℕ) (frames actions : List Float) (map shap
   pub fits : someExceeds order (widthAt (shapeAt shapes) dof) (lookup map) (frameCount frames) ≡ false
   pub there : (k : ℕ) → There dof k (shapeAt shapes k) transforms
 
+-- the frames from `from` up to `to` have one shape
+abbrev pub Alike : List ℕ → ℕ → ℕ → Type 0
+Alike shapes from to = (k : ℕ) → from ≤ k → k < to → shapeAt shapes k ≡ shapeAt shapes from
+
+-- and the work may be done on them
+pub record RunReady (cells order dof : ℕ) (frames actions : List Float) (map shapes : List ℕ) (transforms : List Float) (from to : ℕ) : Type 0 where
+  pub ready : Ready cells order dof frames actions map shapes transforms
+  pub some : from < to
+  pub held : to ≤ frameCount frames
+  pub alike : Alike shapes from to
+
 -- one frame of block entries e and vector entries v, under a shape s with the entries t, at the place p
 pub record FrameAdded (order dof : ℕ) (s : Shape) (t : ℕ → ℕ → ℕ → Float) (p : Place) (e : ℕ → ℕ → Float) (v : ℕ → Float) (h h′ g g′ : List Float) : Type 0 where
   pub hessian : h′ ≡ addAll h (hessianAt order (widthUnder s dof) p (blockUnder s t e))
@@ -45,6 +56,13 @@ pub record FrameAdded (order dof : ℕ) (s : Shape) (t : ℕ → ℕ → ℕ →
 abbrev pub Summed : ℕ → ℕ → List Float → List Float → List ℕ → List ℕ → List Float → List Float → Float → Float → ℕ → Float → List Float → List Float → List Float → List Float → Type 0
 Summed order dof frames actions map shapes transforms n offset weight k s h h′ g g′ =
     FirstAdded order (throughUnder dof frames actions map shapes transforms n offset weight) (costAt frames actions n offset weight) k zeroF s h h′ g g′
+
+-- the frames from `from` up to `to` are added after those before them, whatever was there at first
+abbrev pub Continued : ℕ → ℕ → List Float → List Float → List ℕ → List ℕ → List Float → List Float → Float → Float → ℕ → ℕ → Float → Float → List Float → List Float → List Float → List Float → Type 0
+Continued order dof frames actions map shapes transforms n offset weight from to s r h h′ g g′ =
+    (s₀ : Float) (h₀ g₀ : List Float)
+    → FirstAdded order (throughUnder dof frames actions map shapes transforms n offset weight) (costAt frames actions n offset weight) from s₀ s h₀ h g₀ g
+    → FirstAdded order (throughUnder dof frames actions map shapes transforms n offset weight) (costAt frames actions n offset weight) to s₀ r h₀ h′ g₀ g′
 
 -- all of them with the fixed set
 abbrev pub AllAdded : ℕ → ℕ → List Float → List Float → List Float → List ℕ → List ℕ → List Float → List Float → Float → Float → Float → List Float → List Float → List Float → List Float → Type 0

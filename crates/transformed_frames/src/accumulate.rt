@@ -45,8 +45,7 @@ fn refusal(
     block_transforms::through_refusal(map, shapes, frames.len() / CENTRED, dof as usize, n)
 }
 
-// What a call that is not refused adds, and its cost: under the fitted plane, or nothing and 0 where there is none. With empty slices it goes the way of the
-// call that takes no transforms.
+// What a call that is not refused adds, and its cost: under the fitted plane, or nothing and 0 where there is none.
 fn add_fitted(
     dof: u32,
     frames: &[f64],
@@ -63,19 +62,6 @@ fn add_fitted(
     requires { ⌜ transformedFramesRefusal (length (now hessian)) (length (now gradient)) (record { work = work dof (now frames) (now fixed) sigma (now actions) (now decomposition) (now map); shapes = now shapes; transforms = now transforms }) ≡ 0 ⌝ }
     ensures { λ r. ⌜ ((x : Float) → Accumulated (transformedFramesCall (length (now (hessian .entry))) (length (now (gradient .entry))) (record { work = work dof (now (frames .entry)) (now (fixed .entry)) sigma (now (actions .entry)) (now (decomposition .entry)) (now (map .entry)); shapes = now (shapes .entry); transforms = now (transforms .entry) })) (now (hessian .entry)) (now (gradient .entry)) x 0 (now (hessian .exit)) (now (gradient .exit)) r) ⌝ }
 {
-    if shapes.len() == 0 {
-        return plane_moments::accumulate::add_fitted(
-            dof,
-            frames,
-            fixed,
-            sigma,
-            actions,
-            decomposition,
-            map,
-            hessian,
-            gradient,
-        );
-    }
     let mean = plane_fit::fit_mean(frames, fixed, actions);
     match plane_fit::axis::smallest_axis(decomposition, mean) {
         Fit::Plane(a, b, c, offset) => {

@@ -9,7 +9,7 @@ use crate::lent::number;
 use crate::model::frames as model;
 use crate::report::Report;
 use crate::scenes::{some_frames, Scene};
-use crate::targets::{each_largest_transform, each_turning_transform, Destination};
+use crate::targets::{each_largest_transform, each_run, each_turning_transform, Destination};
 use maghnelt::{slices as library, ACTION, CENTRED, DECOMPOSITION, MAX_FRAMES, TRANSFORM};
 
 /// Compares the library.
@@ -142,6 +142,11 @@ fn each_without_faults(
     check(whole_numbers(), generator);
     each_turning_transform(generator, |target, generator| {
         check(at(target, generator), generator);
+    });
+    each_run(generator, |frames, target, generator| {
+        let mut scene = Scene::of_a_wall(frames, generator);
+        scene.dof = target.dof as u32;
+        check(Case::with_target(scene, target, generator), generator);
     });
     for frames in (1..8).chain([MAX_FRAMES - 1, MAX_FRAMES]) {
         check(of(Scene::of(frames, generator), generator), generator);

@@ -5,7 +5,7 @@ use native.Mathlib.Omega.{arith}
 use borrow.Author.Needs.{needs}
 use lib.ListN.{length}
 use Rattle.frame_blocks.specs.Pulls.{pullIn}
-use Rattle.frame_blocks.specs.Frames.{framesIn, FirstAdded, first-none, batch-more, ready-fits, ready-square, ready-held}
+use Rattle.frame_blocks.specs.Frames.{framesIn, FirstAdded, first-none, batch-more, run-fits, run-square, run-held}
 use Rattle.frame_blocks.proofs.add_batch.Statement.{statement}
 use Rattle.frame_blocks.proofs.add_batch.Tie as tie
 
@@ -24,11 +24,11 @@ add-frame-requires c κs =
     let at = c .before .before .before .before .before in
     let l = at .loop in
     let start = at .before .before .before .before .before .before in
-    let ready = start .pre .2 in (
+    let ready = start .pre .1 in (
       ready .narrow,
-      ready-fits _ _ _ _ _ _ ready _ _ _ (l .inv .2) (c .lookup .ensures) (omega arith),
-      ready-square _ _ _ _ _ _ ready _ _ (l .inv .1) (l .inv .2),
-      ready-held _ _ _ _ _ _ ready _ (omega arith),
+      run-fits _ _ _ _ _ _ _ ready _ _ _ (l .inv .2) (c .lookup .ensures) (omega arith),
+      run-square _ _ _ _ _ _ _ ready _ _ (l .inv .1) (l .inv .2),
+      run-held _ _ _ _ _ _ _ ready _ (omega arith),
     )
 
 loop-again : tie.Need-loop-again Inv-loop μ-loop

@@ -6,16 +6,16 @@ use borrow.Author.Needs.{needs}
 use lib.ListN.{length}
 use Rattle.lists.specs.Batch.{batch-fits}
 use Rattle.frame_blocks.specs.Pulls.{PULLS}
-use Rattle.frame_blocks.specs.Frames.{Summed, first-none, batch-added}
+use Rattle.frame_blocks.specs.Frames.{RunAdded, first-none, run-upto, batch-added}
 use Rattle.frame_blocks.proofs.add_frames.Statement.{statement}
 use Rattle.frame_blocks.proofs.add_frames.Tie as tie
 
 abbrev Inv-loop : tie.InvT-loop
-Inv-loop h₀ g₀ dof frames actions map normal offset weight count sum₀ pulls₀ from₀ h g sum pulls from =
-    (from ≤ count) × (length h ≡ length h₀) × (length g ≡ length g₀) × (length pulls ≡ PULLS) × Summed (length g₀) dof frames actions map normal offset weight from sum h₀ h g₀ g
+Inv-loop h₀ g₀ dof frames actions map normal offset weight count start sum₀ pulls₀ from₀ h g sum pulls from =
+    (from ≤ count) × (length h ≡ length h₀) × (length g ≡ length g₀) × (length pulls ≡ PULLS) × RunAdded (length g₀) dof frames actions map normal offset weight from start sum h₀ h g₀ g
 
 abbrev μ-loop : tie.MeasureT-loop
-μ-loop h₀ g₀ dof frames actions map normal offset weight count sum₀ pulls₀ from₀ h g sum pulls from = count - from
+μ-loop h₀ g₀ dof frames actions map normal offset weight count start sum₀ pulls₀ from₀ h g sum pulls from = count - from
 
 loop-holds : tie.Need-loop-holds Inv-loop μ-loop
 loop-holds c = (search needs, refl, refl, refl, first-none _ _ _ _ _ _)
@@ -25,9 +25,9 @@ fill-pulls-requires c κs =
     let sized = c .before in
     let inside = sized .before in
     let l = inside .before .loop in
-    let ready = inside .before .before .before .before .before .before .before .pre .1 in
+    let ready = inside .before .before .before .before .before .before .before .pre in
     let fits = batch-fits (sized .batch-size .ensures) (inside .loop-test .taken) (omega arith) in
-    (fits .1, l .inv .3, omega arith, omega (arith, ready .acted))
+    (fits .1, l .inv .3, omega (arith, ready .held), omega (arith, ready .acted))
 
 add-batch-requires : tie.Need-add-batch-requires Inv-loop μ-loop
 add-batch-requires c κs =
@@ -36,7 +36,7 @@ add-batch-requires c κs =
     let l = inside .before .loop in
     let start = inside .before .before .before .before .before .before .before in
     let fits = batch-fits (sized .batch-size .ensures) (inside .loop-test .taken) (omega arith) in
-    (fits .1, omega arith, rw (l .inv .1, l .inv .2) (start .pre .1))
+    (fits .1, run-upto _ _ _ _ _ _ _ (start .pre) _ _ _ (l .inv .1) (l .inv .2) (fits .2))
 
 add-from : tie.Need-add-from Inv-loop μ-loop
 add-from c =
@@ -64,7 +64,7 @@ loop-again c =
       added .add-batch .kept .0 ∙ l .inv .1,
       added .add-batch .kept .1 .0 ∙ l .inv .2,
       filled .fill-pulls .ensures .long,
-      batch-added _ _ _ _ _ _ _ _ (l .from) _ _ _ (l .sum) _ _ (l .h) _ _ (l .g) _ (l .inv .2) (filled .fill-pulls .ensures) (added .add-batch .ensures) (l .inv .4),
+      batch-added _ _ _ _ _ _ _ _ (l .from) _ _ _ _ (l .sum) _ _ (l .h) _ _ (l .g) _ (l .inv .2) (filled .fill-pulls .ensures) (added .add-batch .ensures) (l .inv .4),
     )
 
 returns : tie.Need-returns Inv-loop μ-loop

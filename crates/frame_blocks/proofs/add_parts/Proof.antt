@@ -6,8 +6,7 @@ use native.Mathlib.Omega.{arith}
 use borrow.Author.Needs.{needs}
 use lib.ListN.{length}
 use Rattle.terms.specs.Laws.{length-addAll}
-use Rattle.normal_blocks.specs.Map.{lookup}
-use Rattle.normal_blocks.specs.Laws.{fits, fits-at}
+use Rattle.normal_blocks.specs.Laws.{fits-at}
 use Rattle.frame_parts.specs.Parts.{costIn}
 use Rattle.frame_blocks.specs.Frames.{PartAdded, partsIn, FirstAdded, part-mapped, part-unmapped, first-none, parts-more}
 use Rattle.frame_blocks.proofs.add_parts.Statement.{statement}
@@ -30,7 +29,7 @@ add-part-requires c κs =
     let l = looked .before .before .loop in
     let start = looked .before .before .before .before .before .before in
     let a = start .args in
-    let fit = fits (length (a .g .now)) (λ k. 3) (lookup (a .map .now)) (a .from + a .size) (start .pre .3) (a .from + l .k) (omega arith) in
+    let fit = start .pre .3 (a .from + l .k) (omega arith) in
     (omega arith, fits-at _ 3 _ (looked .lookup .result) (placed .at .given .1) (rw (looked .lookup .ensures) fit), l .inv .1 ∙ start .pre .2, l .inv .2)
 
 -- what either arm adds

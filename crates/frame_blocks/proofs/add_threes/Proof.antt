@@ -6,16 +6,16 @@ use borrow.Author.Needs.{needs}
 use lib.ListN.{length}
 use Rattle.lists.specs.Batch.{batch-fits}
 use Rattle.frame_parts.specs.Parts.{PARTS}
-use Rattle.frame_blocks.specs.Frames.{Summed, first-none, parts-added, ready-square, ready-upto}
+use Rattle.frame_blocks.specs.Frames.{RunAdded, first-none, parts-added, run-upto}
 use Rattle.frame_blocks.proofs.add_threes.Statement.{statement}
 use Rattle.frame_blocks.proofs.add_threes.Tie as tie
 
 abbrev Inv-loop : tie.InvT-loop
-Inv-loop h₀ g₀ frames actions map normal offset weight count sum₀ c₀ from₀ h g sum c from =
-    (from ≤ count) × (length h ≡ length h₀) × (length g ≡ length g₀) × (length c ≡ PARTS) × Summed (length g₀) 3 frames actions map normal offset weight from sum h₀ h g₀ g
+Inv-loop h₀ g₀ frames actions map normal offset weight count start s₀ c₀ from₀ h g s c from =
+    (from ≤ count) × (length h ≡ length h₀) × (length g ≡ length g₀) × (length c ≡ PARTS) × RunAdded (length g₀) 3 frames actions map normal offset weight from start s h₀ h g₀ g
 
 abbrev μ-loop : tie.MeasureT-loop
-μ-loop h₀ g₀ frames actions map normal offset weight count sum₀ c₀ from₀ h g sum c from = count - from
+μ-loop h₀ g₀ frames actions map normal offset weight count start s₀ c₀ from₀ h g s c from = count - from
 
 loop-holds : tie.Need-loop-holds Inv-loop μ-loop
 loop-holds c = (search needs, refl, refl, refl, first-none _ _ _ _ _ _)
@@ -25,9 +25,9 @@ fill-parts-requires c κs =
     let sized = c .before in
     let inside = sized .before in
     let l = inside .before .loop in
-    let ready = inside .before .before .before .before .before .before .before .pre .1 in
+    let ready = inside .before .before .before .before .before .before .before .pre in
     let fits = batch-fits (sized .batch-size .ensures) (inside .loop-test .taken) (omega arith) in
-    (fits .1, l .inv .3, omega arith, omega (arith, ready .acted))
+    (fits .1, l .inv .3, omega (arith, ready .held), omega (arith, ready .acted))
 
 add-parts-requires : tie.Need-add-parts-requires Inv-loop μ-loop
 add-parts-requires c κs =
@@ -35,9 +35,9 @@ add-parts-requires c κs =
     let inside = sized .before in
     let l = inside .before .loop in
     let start = inside .before .before .before .before .before .before .before in
-    let ready = start .pre .1 in
     let fits = batch-fits (sized .batch-size .ensures) (inside .loop-test .taken) (omega arith) in
-    (fits .1, omega arith, ready-square _ _ _ _ _ _ ready _ _ (l .inv .1) (l .inv .2), ready-upto _ _ _ _ _ _ ready _ _ (l .inv .2) (omega arith))
+    let ready = run-upto _ _ _ _ _ _ _ (start .pre) _ _ _ (l .inv .1) (l .inv .2) (fits .2) in
+    (fits .1, omega (arith, ready .held), ready .square, ready .fits)
 
 add-from : tie.Need-add-from Inv-loop μ-loop
 add-from c =
@@ -65,7 +65,7 @@ loop-again c =
       added .add-parts .kept .0 ∙ l .inv .1,
       added .add-parts .kept .1 .0 ∙ l .inv .2,
       filled .fill-parts .ensures .long,
-      parts-added _ _ _ (l .from) _ _ _ _ _ _ _ (l .sum) _ _ (l .h) _ _ (l .g) _ (l .inv .2) (filled .fill-parts .ensures) (added .add-parts .ensures) (l .inv .4),
+      parts-added _ _ _ (l .from) _ _ _ _ _ _ _ _ (l .s) _ _ (l .h) _ _ (l .g) _ (l .inv .2) (filled .fill-parts .ensures) (added .add-parts .ensures) (l .inv .4),
     )
 
 returns : tie.Need-returns Inv-loop μ-loop

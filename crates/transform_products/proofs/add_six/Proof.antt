@@ -10,23 +10,15 @@ returns-2 : tie.Need-returns-2
 returns-2 c = let added = c .before .before .before .before in rw (added .before .before .before .before .match .keys2) (added .add-six-by-two .ensures)
 
 returns-3 : tie.Need-returns-3
-returns-3 c = let added = c .before .before .before .before in rw (added .before .before .before .before .match .keys3) (added .add-six-by-three .ensures)
+returns-3 c = let added = c .before .before .before .before in rw (added .before .before .before .before .match .keys3) (added .add-six-by-four .ensures)
 
 returns-4 : tie.Need-returns-4
-returns-4 c = let added = c .before .before .before .before in rw (added .before .before .before .before .match .keys4) (added .add-six-by-four .ensures)
-
-returns-5 : tie.Need-returns-5
-returns-5 c = let added = c .before .before .before .before in rw (added .before .before .before .before .match .keys5) (added .add-six-by-five .ensures)
-
-returns-6 : tie.Need-returns-6
-returns-6 c = let added = c .before .before .before .before in rw (added .before .before .before .before .match .keys6) (added .add-six-by-six .ensures)
+returns-4 c = let added = c .before .before .before .before in rw (added .before .before .before .before .match .keys4) (added .add-six-by-six .ensures)
 
 pub add-six-spec : {M : Type 1} → statement M
 add-six-spec =
     tie.close
     (tie.spec
-    (λ c κs. search needs)
-    (λ c κs. search needs)
     (λ c κs. search needs)
     (λ c κs. search needs)
     (λ c κs. search needs)
@@ -44,12 +36,6 @@ add-six-spec =
     (λ c. search needs)
     (λ c. search needs)
     returns-4
-    (λ c. search needs)
-    (λ c. search needs)
-    returns-5
-    (λ c. search needs)
-    (λ c. search needs)
-    returns-6
     (λ c. search needs)
     (λ c. search needs)
     (λ c. search needs))

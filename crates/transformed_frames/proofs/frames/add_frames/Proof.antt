@@ -1,4 +1,4 @@
--- `transformed_frames::frames::add_frames` meets its contract: after k turns the first k frames are added and their costs summed. Assumes nothing.
+-- `transformed_frames::frames::add_frames` meets its contract: when frame k is reached the frames before it are added and their costs summed. Assumes nothing.
 use Prim.Native.Nat.{_≤_, _-_}
 use mathlib.Core.Path.{_≡_, refl, _∙_}
 use native.Mathlib.Omega.{arith}
@@ -6,59 +6,48 @@ use borrow.Author.Needs.{needs}
 use lib.ListN.{length}
 use Rattle.frame_blocks.specs.Frames.{first-none}
 use Rattle.transformed_frames.specs.Frames.{Summed}
-use Rattle.transformed_frames.proofs.Laws.{summed-more, ready-fits, ready-there, ready-held, ready-square}
+use Rattle.transformed_frames.proofs.Runs.{run-ready, run-summed}
 use Rattle.transformed_frames.proofs.frames.add_frames.Statement.{statement}
 use Rattle.transformed_frames.proofs.frames.add_frames.Tie as tie
 
 abbrev Inv-loop : tie.InvT-loop
-Inv-loop h₀ g₀ dof frames actions map shapes transforms normal offset weight count sum₀ m₀ u₀ k₀ h g sum m u k =
-    (k ≤ count) × (length h ≡ length h₀) × (length g ≡ length g₀) × (length m ≡ 90) × (length u ≡ 90) × Summed (length g₀) dof frames actions map shapes transforms normal offset weight k sum h₀ h g₀ g
+Inv-loop h₀ g₀ dof frames actions map shapes transforms normal offset weight count sum₀ k₀ h g sum k =
+    (k ≤ count) × (length h ≡ length h₀) × (length g ≡ length g₀) × Summed (length g₀) dof frames actions map shapes transforms normal offset weight k sum h₀ h g₀ g
 
 abbrev μ-loop : tie.MeasureT-loop
-μ-loop h₀ g₀ dof frames actions map shapes transforms normal offset weight count sum₀ m₀ u₀ k₀ h g sum m u k = count - k
+μ-loop h₀ g₀ dof frames actions map shapes transforms normal offset weight count sum₀ k₀ h g sum k = count - k
 
 loop-holds : tie.Need-loop-holds Inv-loop μ-loop
-loop-holds c = (search needs, refl, refl, refl, refl, first-none _ _ _ _ _ _)
+loop-holds c = (search needs, refl, refl, first-none _ _ _ _ _ _)
 
-pull-at-requires : tie.Need-pull-at-requires Inv-loop μ-loop
-pull-at-requires c κs =
-    let start = c .before .before .before .before .before .before .before .before .before in
-    ready-held _ _ _ _ _ _ _ _ (start .pre .1) _ (omega arith)
+add-run-requires : tie.Need-add-run-requires Inv-loop μ-loop
+add-run-requires c κs =
+    let ended = c .before .before in
+    let l = ended .before .before in
+    let pre = l .before .before .before .before .before .before .before .before .pre in
+    run-ready _ _ _ _ _ _ _ _ (pre .1) _ _ _ _ _ (l .loop .inv .1) (l .loop .inv .2) (pre .0) (ended .run-end .ensures)
 
-add-frame-requires : tie.Need-add-frame-requires Inv-loop μ-loop
-add-frame-requires c κs =
-    let shaped = c .before .before .before .before in
-    let l = shaped .before .before .before .before .loop in
-    let pre = shaped .before .before .before .before .before .before .before .before .before .before .before .before .pre in
-    let ready = pre .1 in
-    let here = shaped .before .before .before .loop-test .taken in (
-      ready .narrow,
-      ready-fits _ _ _ _ _ _ _ _ ready _ _ _ _ (l .inv .2) (shaped .before .lookup .ensures) (shaped .shape-at .ensures) (omega (arith, here, pre .0)),
-      ready-square _ _ _ _ _ _ _ _ ready _ _ (l .inv .1) (l .inv .2),
-      ready-held _ _ _ _ _ _ _ _ ready _ (omega (arith, here, pre .0)),
-      ready-there _ _ _ _ _ _ _ _ ready _ _ (shaped .shape-at .ensures),
-      l .inv .3,
-      l .inv .4,
-    )
+loop-less : tie.Need-loop-less Inv-loop μ-loop
+loop-less c =
+    let ended = c .before .before .before .before .before .before .before in
+    omega (arith, ended .run-end .ensures .0, ended .run-end .ensures .1)
 
 loop-again : tie.Need-loop-again Inv-loop μ-loop
 loop-again c =
-    let added = c .before .before .before .before .before in
-    let shaped = added .before .before .before .before .before in
-    let l = shaped .before .before .before .before .loop in (
-      search needs,
-      added .add-frame .kept .0 ∙ l .inv .1,
-      added .add-frame .kept .1 .0 ∙ l .inv .2,
-      added .add-frame .ensures .1,
-      added .add-frame .ensures .2,
-      summed-more _ _ _ _ _ _ _ _ _ _ (l .k) _ _ _ _ (l .sum) _ (l .h) _ _ (l .g) _ (l .inv .2) (shaped .before .lookup .ensures) (shaped .shape-at .ensures) (shaped .before .before .pull-at .ensures) (added .add-frame .ensures .0) (l .inv .5),
+    let added = c .before .before .before .before in
+    let ended = added .before .before .before in
+    let l = ended .before .before .loop in (
+      ended .run-end .ensures .1,
+      added .add-run .kept .0 ∙ l .inv .1,
+      added .add-run .kept .1 .0 ∙ l .inv .2,
+      run-summed _ _ _ _ _ _ _ _ _ _ _ _ _ _ _ _ (l .h) _ _ (l .g) _ (l .inv .2) (added .add-run .ensures) (l .inv .3),
     )
 
 returns : tie.Need-returns Inv-loop μ-loop
 returns c =
     let l = c .before .loop in
     let e : l .k ≡ c .before .before .before .before .before .before .before .before .before .args .count = omega arith in
-    rw e at (l .inv .5)
+    rw e at (l .inv .3)
 
 pub add-frames-spec : {M : Type 1} → statement M
 add-frames-spec =
@@ -67,12 +56,9 @@ add-frames-spec =
     Inv-loop
     μ-loop
     loop-holds
-    pull-at-requires
-    (λ c κs. tt)
-    (λ c κs. tt)
-    add-frame-requires
-    (λ c. omega (arith, c .before .before .before .before .before .before .before .before .before .before .before .before .before .loop-test .taken, c .before .before .before .before .before .before .before .before .before .before .before .before .before .before .before .before .before .before .before .before .before .before .fits .count))
-    (λ c. search needs)
+    (λ c κs. search needs)
+    add-run-requires
+    loop-less
     loop-again
     (λ c. search needs)
     (λ c. search needs)

@@ -1,0 +1,4 @@
+pub mod Adding
+pub mod Lanes
+pub mod Products
+pub mod Runs
