@@ -18,7 +18,7 @@ use Rattle.frame_pairs.specs.Pairs.{lane, Put, blockIn, vectorIn, costIn
 -- ---- a loop that puts: before its first turn, and after one more
 module _ (k e : ℕ) (v : ℕ → Float) (cells₀ : List Float) where
   pub put-none : Put k e 0 v cells₀ cells₀
-  put-none = record { long = refl; here = λ i l. absurd (not-suc-le-zero l); before = λ d l. refl; other = λ j d l o. refl }
+  put-none = record { long = refl; here = λ i l. absurd (not-suc-le-zero l); before = λ d l. refl; behind = λ d l. refl; other = λ j d l o. refl }
 
   pub put-more : (i : ℕ) (cells : List Float) (w : Float) → k < 2 → 2 * (e + i) + k < length cells → w ≡ v i → Put k e i v cells₀ cells → Put k e (i + 1) v cells₀ (set cells (2 * (e + i) + k) w)
   unfolding lane
@@ -29,6 +29,7 @@ module _ (k e : ℕ) (v : ℕ → Float) (cells₀ : List Float) where
         here = up-to {P = λ d. set cells place w ! (2 * (e + d) + k) ≡ v d} i (getD-set-same cells place w nan inside ∙ is)
             (λ d b. getD-set-other cells place (2 * (e + d) + k) w nan (λ q. omega arith) ∙ p .here d b);
         before = λ d b. getD-set-other cells place (2 * d + k) w nan (λ q. omega arith) ∙ p .before d b;
+        behind = λ d b. getD-set-other cells place (2 * d + k) w nan (λ q. omega arith) ∙ p .behind d (omega arith);
         other = λ j d b o. getD-set-other cells place (2 * d + j) w nan (λ q. o (omega arith)) ∙ p .other j d b o;
       }
 

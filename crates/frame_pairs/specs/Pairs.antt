@@ -21,23 +21,24 @@ use Rattle.frame_parts.specs.Frame.{vectorEntry}
 use Rattle.frame_blocks.specs.Frames.{FirstAdded}
 
 -- the k-th of six
-abbrev pub sixth : List Float → List Float → List Float → List Float → List Float → List Float → ℕ → List Float
-sixth a b c d e f zero = a
-sixth a b c d e f (suc zero) = b
-sixth a b c d e f (suc (suc zero)) = c
-sixth a b c d e f (suc (suc (suc zero))) = d
-sixth a b c d e f (suc (suc (suc (suc zero)))) = e
-sixth a b c d e f (suc (suc (suc (suc (suc k))))) = f
+abbrev pub ofSix : List Float → List Float → List Float → List Float → List Float → List Float → ℕ → List Float
+ofSix a b c d e f zero = a
+ofSix a b c d e f (suc zero) = b
+ofSix a b c d e f (suc (suc zero)) = c
+ofSix a b c d e f (suc (suc (suc zero))) = d
+ofSix a b c d e f (suc (suc (suc (suc zero)))) = e
+ofSix a b c d e f (suc (suc (suc (suc (suc k))))) = f
 
 -- number e of frame k of a pair
 unfoldable pub lane : List Float → ℕ → ℕ → Float
 lane cells k e = cells ! (2 * e + k)
 
--- `width` numbers v became those of frame k from number e on; those before them stayed, and so did the other frame's
+-- `width` numbers v became those of frame k from number e on; its other numbers stayed, and so did the other frame's
 pub record Put (k e width : ℕ) (v : ℕ → Float) (cells cells′ : List Float) : Type 0 where
   pub long : length cells′ ≡ length cells
   pub here : (i : ℕ) → i < width → lane cells′ k (e + i) ≡ v i
   pub before : (d : ℕ) → d < e → lane cells′ k d ≡ lane cells k d
+  pub behind : (d : ℕ) → e + width ≤ d → lane cells′ k d ≡ lane cells k d
   pub other : (j d : ℕ) → j < 2 → j ≢ k → lane cells′ j d ≡ lane cells j d
 
 -- a frame's part of so many columns: its block by columns, its vector, its cost

@@ -1,6 +1,7 @@
 // Frames of six columns through transforms of three or of five columns, two frames at a time: what each adds and costs is worked out side by side, number e of
 // frame k of the pair at 2·e + k, so that the compiler makes one vector of the two. Then one frame's numbers are added after the other's.
-// The parts of a pair are made by value, in an array of their own, so that the compiler need not test whether they overlap what they are made of.
+// The parts of a pair are made by value, in an array of their own, so that the compiler need not test whether they overlap what they are made of. The number of
+// columns stands in the code, so that it unrolls the loops: what differs in that number alone is written for three and for five.
 use block_transforms::TRANSFORM;
 use derivative::ACTION;
 use derivative::AXIS_X;
@@ -24,12 +25,12 @@ ghost use Rattle.derivative.specs.Action.{actionSize};
 ghost use Rattle.point_moments.specs.Scatter.{CENTRED};
 ghost use Rattle.frame_segment.specs.Steps.{rowsEntry};
 ghost use Rattle.block_transforms.specs.Transform.{ROOM, entryFrom, transformedVector};
-ghost use Rattle.frame_pairs.specs.Pairs.{sixth, lane, Put, Part, Parts, blockIn, RunReady, PartsAdded, RunAdded};
+ghost use Rattle.frame_pairs.specs.Pairs.{ofSix, lane, Put, Part, Parts, blockIn, RunReady, PartsAdded, RunAdded};
 
 // How many frames are worked out side by side.
 const PAIR: usize = 2;
 
-// The rows of D, which are three, of P = DᵀS, which are three, and of m.
+// The three rows of D, the three of P = DᵀS, and m.
 struct Rows(
     [f64; 9],
     [f64; 9],
@@ -93,7 +94,7 @@ struct Six([f64; 9], [f64; 9], [f64; 9], [f64; 9], [f64; 9], [f64; 9]);
 // The columns of U times six numbers of t, added up: a column of U·T.
 fn right(u: Six, t: &[f64], from: usize, cols: usize) -> [f64; 9]
     requires { ⌜ (cols ≤ 9) × (from + 6 ≤ length (now t)) ⌝ }
-    ensures { λ r. ⌜ r ≡ padded 9 cols (λ i. sumTo 6 (λ k. (sixth (u .0) (u .1) (u .2) (u .3) (u .4) (u .5) k ! i) ⊗ numberFrom (now (t .entry)) from k)) ⌝ }
+    ensures { λ r. ⌜ r ≡ padded 9 cols (λ i. sumTo 6 (λ k. (ofSix (u .0) (u .1) (u .2) (u .3) (u .4) (u .5) k ! i) ⊗ numberFrom (now (t .entry)) from k)) ⌝ }
 {
     let u0 = u.0;
     let u1 = u.1;
@@ -168,7 +169,7 @@ fn part_by_three(
     cells[24 + k] = pull.cost;
 }
 
-// The parts of up to two frames, the first of the lists.
+// The parts of the first `size` frames of the lists.
 fn parts_by_three(
     frames: &[f64],
     actions: &[f64],
@@ -201,7 +202,7 @@ fn parts_by_three(
     cells
 }
 
-// The part of frame k of the pair; the same of five columns: its block by columns, its vector, its cost.
+// The same through a transform of five columns.
 fn part_by_five(
     x: &[f64],
     f: Centred,
@@ -247,7 +248,7 @@ fn part_by_five(
     cells[60 + k] = pull.cost;
 }
 
-// The parts of up to two frames, the first of the lists.
+// The same of five columns.
 fn parts_by_five(
     frames: &[f64],
     actions: &[f64],
@@ -290,7 +291,7 @@ fn add_numbers(h: &mut [f64], at: usize, cells: &[f64], k: usize, e: usize, widt
     }
 }
 
-// Its block, column after column.
+// The block of frame k of the pair, column after column.
 fn add_block(h: &mut [f64], n: usize, at: usize, cells: &[f64], k: usize, cols: usize)
     requires { ⌜ (k < 2) × (2 * (cols * cols) ≤ length (now cells)) × (at + cols ≤ n) × (length (now h) ≡ n * n) ⌝ }
     ensures { λ _. ⌜ now (h .exit) ≡ addAll (now (h .entry)) (block n at cols (blockIn cols (now (cells .entry)) k)) ⌝ }
@@ -301,7 +302,7 @@ fn add_block(h: &mut [f64], n: usize, at: usize, cells: &[f64], k: usize, cols: 
     }
 }
 
-// The parts of a pair of three columns are added where the map says, and their costs to a sum. The number stands in the code, so that the compiler unrolls the loops.
+// The parts of a pair of three columns are added where the map says, and their costs to a sum. A frame that goes nowhere was worked out too: it costs.
 fn add_parts_by_three(
     h: &mut [f64],
     g: &mut [f64],
@@ -368,7 +369,7 @@ pub fn add_by_three(
     sum
 }
 
-// The parts of a pair of five columns.
+// The same of five columns.
 fn add_parts_by_five(
     h: &mut [f64],
     g: &mut [f64],

@@ -1,6 +1,7 @@
 -- Laws of frames that are added through transforms: one frame, a loop over them, and the call. Assumes nothing.
-use Prim.Native.Nat.{ℕ, zero, suc, _+_, _*_, _<_}
+use Prim.Native.Nat.{ℕ, zero, suc, _+_, _-_, _*_, _≤_, _<_}
 use native.Mathlib.Numerals.{add-one}
+use native.Mathlib.Nat.{sub-self}
 use native.Mathlib.Omega.{arith}
 use mathlib.Core.Path.{_≡_, refl, sym, ap, _∙_}
 use mathlib.Core.Bool.{false}
@@ -32,10 +33,10 @@ use Rattle.frame_parts.specs.Frame.{vectorEntry}
 use Rattle.frame_cost.specs.Cost.{weightOf, frameCost, fixedCost, costAt}
 use Rattle.frame_cost.specs.declared.Pull.{Pull}
 use Rattle.frame_blocks.specs.Pulls.{pullAt}
-use Rattle.frame_blocks.specs.Frames.{first-none, first-more, all-added}
+use Rattle.frame_blocks.specs.Frames.{FirstAdded, first-none, first-more, all-added}
 use Rattle.plane_moments.specs.Accumulate.{FramesWork, transformedFramesRefusal, fitOf, transformedFramesCall}
 use Rattle.plane_moments.proofs.Accumulating.{accepted-call, plane-call}
-use Rattle.transformed_frames.specs.Frames.{throughUnder, There, Ready, FrameAdded, Continued, Summed, AllAdded}
+use Rattle.transformed_frames.specs.Frames.{throughUnder, There, Ready, FrameAdded, framesFrom, Continued, Summed, AllAdded}
 
 -- ---- stored numbers at row `at`, without a transform and with one
 module _ (order at dof stride : ℕ) (s : Shape) (t : List Float) (from : ℕ) (m h h′ g g′ : List Float) where
@@ -88,17 +89,27 @@ module _ (cells order dof : ℕ) (frames actions : List Float) (map shapes : Lis
 -- ---- the loop: nothing yet, and one frame more
 module _ (order dof : ℕ) (frames actions : List Float) (map shapes : List ℕ) (transforms n : List Float) (offset weight : Float) (from : ℕ) (start : Float) (h₀ g₀ : List Float) where
   pub continued-none : Continued order dof frames actions map shapes transforms n offset weight from from start start h₀ h₀ g₀ g₀
-  continued-none s₀ h₁ g₁ before = before
+  continued-none = rw (sub-self from) (first-none order _ _ start h₀ g₀)
 
-  pub continued-more : (k rows : ℕ) (p : Place) (s : Shape) (q : Pull) (sum : Float) (h h′ g g′ : List Float) → rows ≡ order → p ≡ lookup map k → s ≡ shapeAt shapes k
+  continued-at : (j rows : ℕ) (p : Place) (s : Shape) (q : Pull) (sum : Float) (h h′ g g′ : List Float) → rows ≡ order → p ≡ lookup map (from + j) → s ≡ shapeAt shapes (from + j)
+      → q ≡ pullAt frames actions n offset weight (from + j)
+      → FrameAdded rows dof s (entryFrom transforms (ROOM * (from + j))) p (blockEntry (actionAt actions (from + j)) (frameAt frames (from + j)) n weight) (pulledEntry (actionAt actions (from + j)) (frameAt frames (from + j)) n (q .turn) (q .shift) weight) h h′ g g′
+      → FirstAdded order (framesFrom from (throughUnder dof frames actions map shapes transforms n offset weight)) (λ k. costAt frames actions n offset weight (from + k)) j start sum h₀ h g₀ g
+      → FirstAdded order (framesFrom from (throughUnder dof frames actions map shapes transforms n offset weight)) (λ k. costAt frames actions n offset weight (from + k)) (j + 1) start (sum ⊕ q .cost) h₀ h′ g₀ g′
+  unfolding costAt frameCost pullAt vectorEntry widthAt
+  continued-at j rows p s q sum h h′ g g′ el ep es eq a before =
+      first-more order (framesFrom from (throughUnder dof frames actions map shapes transforms n offset weight)) _ j p _ _ (q .cost) start sum h₀ h h′ g₀ g g′ ep (λ i j li lj. refl) (λ i li. refl) (ap (λ (o : Pull). o .cost) eq)
+      (rw (el, es) at (a .hessian)) (rw (es, eq) at (a .gradient)) before
+
+  pub continued-more : (k rows : ℕ) (p : Place) (s : Shape) (q : Pull) (sum : Float) (h h′ g g′ : List Float) → from ≤ k → rows ≡ order → p ≡ lookup map k → s ≡ shapeAt shapes k
       → q ≡ pullAt frames actions n offset weight k
       → FrameAdded rows dof s (entryFrom transforms (ROOM * k)) p (blockEntry (actionAt actions k) (frameAt frames k) n weight) (pulledEntry (actionAt actions k) (frameAt frames k) n (q .turn) (q .shift) weight) h h′ g g′
       → Continued order dof frames actions map shapes transforms n offset weight from k start sum h₀ h g₀ g
       → Continued order dof frames actions map shapes transforms n offset weight from (k + 1) start (sum ⊕ q .cost) h₀ h′ g₀ g′
-  unfolding costAt frameCost pullAt vectorEntry widthAt
-  continued-more k rows p s q sum h h′ g g′ el ep es eq a so-far s₀ h₁ g₁ before =
-      first-more order (throughUnder dof frames actions map shapes transforms n offset weight) _ k p _ _ (q .cost) s₀ sum h₁ h h′ g₁ g g′ ep (λ i j li lj. refl) (λ i li. refl) (ap (λ (o : Pull). o .cost) eq)
-      (rw (el, es) at (a .hessian)) (rw (es, eq) at (a .gradient)) (so-far s₀ h₁ g₁ before)
+  continued-more k rows p s q sum h h′ g g′ b el ep es eq a before =
+      let here : k ≡ from + (k - from) = omega arith in
+      let next : k + 1 - from ≡ (k - from) + 1 = omega arith in
+      rw next (continued-at (k - from) rows p s q sum h h′ g g′ el (rw here at ep) (rw here at es) (rw here at eq) (rw here at a) before)
 
 -- ---- without a map no frame goes anywhere
 module _ (order dof : ℕ) (frames actions : List Float) (map shapes : List ℕ) (transforms n : List Float) (offset weight : Float) where

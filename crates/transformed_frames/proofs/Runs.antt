@@ -1,5 +1,6 @@
 -- Laws of a run of frames of one shape: its lists are those of the call from its first frame on, and so it continues what is added before it. Assumes nothing.
 use Prim.Native.Nat.{ℕ, _+_, _*_, _-_, _≤_, _<_}
+use native.Mathlib.Nat.{zero-add}
 use native.Mathlib.Omega.{arith}
 use mathlib.Core.Path.{_≡_, refl, sym, ap, ap₂, _∙_}
 use mathlib.Core.Bool.{Bool, true, false}
@@ -12,7 +13,7 @@ use borrow.Author.Tests.{ltb-true, ltb-false}
 use Rattle.sums.specs.Sum.{zeroF}
 use Rattle.normal_blocks.specs.Map.{lookup, exceeds}
 use Rattle.normal_blocks.specs.Laws.{fits}
-use Rattle.call_lists.specs.Frames.{frameHessian, frameGradient}
+use Rattle.call_lists.specs.Frames.{Frames, frameHessian, frameGradient}
 use Rattle.block_transforms.specs.Transform.{ROOM, shapeAt, widthUnder, widthAt}
 use Rattle.block_transforms.specs.declared.Shape.{Shape}
 use Rattle.block_transforms.specs.declared.Shape.the-variants.{Absent, Sized}
@@ -20,13 +21,13 @@ use Rattle.derivative.specs.Action.{actionSize}
 use Rattle.point_moments.specs.Scatter.{CENTRED}
 use Rattle.plane_fit.specs.Fit.{frameCount}
 use Rattle.frame_cost.specs.Cost.{costAt}
-use Rattle.frame_blocks.specs.Frames.{framesUnder, Continues, first-joined}
+use Rattle.frame_blocks.specs.Frames.{framesUnder, FirstAdded, Continues, first-none, first-joined}
 use Rattle.frame_blocks.specs.Frames as plain
 use Rattle.frame_blocks.proofs.Runs.{frame-from, action-from, lookup-from, count-from}
 use Rattle.frame_pairs.specs.Pairs.{throughBy}
 use Rattle.frame_pairs.specs.Pairs as pairs
 use Rattle.frame_pairs.proofs.Runs.{rest, entry-from}
-use Rattle.transformed_frames.specs.Frames.{throughUnder, Ready, Alike, RunReady, Continued, Summed}
+use Rattle.transformed_frames.specs.Frames.{throughUnder, Ready, Alike, RunReady, framesFrom, Continued, Summed}
 
 -- ---- where a run ends: after its first frame, and one frame more
 pub alike-one : (shapes : List ℕ) (from : ℕ) → Alike shapes from (from + 1)
@@ -53,10 +54,22 @@ run-ready cells order dof frames actions map shapes transforms ready h g from to
 })
 
 -- what it adds comes after what was summed before it
-pub run-summed : (order dof : ℕ) (frames actions : List Float) (map shapes : List ℕ) (transforms n : List Float) (offset weight : Float) (rows from to : ℕ) (s r : Float) (h₀ h h′ g₀ g g′ : List Float) → rows ≡ order
+pub run-summed : (order dof : ℕ) (frames actions : List Float) (map shapes : List ℕ) (transforms n : List Float) (offset weight : Float) (rows from to : ℕ) (s r : Float) (h₀ h h′ g₀ g g′ : List Float) → rows ≡ order → from < to
     → Continued rows dof frames actions map shapes transforms n offset weight from to s r h h′ g g′ → Summed order dof frames actions map shapes transforms n offset weight from s h₀ h g₀ g
     → Summed order dof frames actions map shapes transforms n offset weight to r h₀ h′ g₀ g′
-run-summed order dof frames actions map shapes transforms n offset weight rows from to s r h₀ h h′ g₀ g g′ e continued before = (rw e at continued) zeroF h₀ g₀ before
+unfolding frameHessian frameGradient
+run-summed order dof frames actions map shapes transforms n offset weight rows from to s r h₀ h h′ g₀ g g′ e some continued before =
+    let all = throughUnder dof frames actions map shapes transforms n offset weight in
+    let ends : from + (to - from) ≡ to = omega arith in
+    rw ends at (first-joined order all _ (framesFrom from all) _ from (to - from) zeroF s r h₀ h h′ g₀ g g′ (record { hessian = λ k l. refl; gradient = λ k l. refl; cost = λ k l. refl }) (rw e at continued) before)
+
+-- frames that continue a call's are the call's frames from there on
+continued-by : (order : ℕ) (all batch : Frames) (costs costs′ : ℕ → Float) (from size : ℕ) (s r : Float) (h h′ g g′ : List Float) → Continues order all batch costs costs′ from size
+    → FirstAdded order batch costs′ size s r h h′ g g′ → FirstAdded order (framesFrom from all) (λ k. costs (from + k)) size s r h h′ g g′
+unfolding frameHessian frameGradient
+continued-by order all batch costs costs′ from size s r h h′ g g′ same added =
+    rw zero-add at (first-joined order (framesFrom from all) (λ k. costs (from + k)) batch costs′ 0 size s s r h h h′ g g g′
+    (record { hessian = λ k l. rw (zero-add k) (same .hessian k l); gradient = λ k l. rw (zero-add k) (same .gradient k l); cost = λ k l. rw (zero-add k) (same .cost k l) }) added (first-none order (framesFrom from all) (λ k. costs (from + k)) s h g))
 
 -- a shape whose rows and columns were tested
 pub shape-is : (s : Shape) (rows cols r c : ℕ) → s ≡ Sized rows cols → rows ≡ r → cols ≡ c → s ≡ Sized r c
@@ -92,9 +105,6 @@ module _ (cells order dof : ℕ) (frames actions : List Float) (map shapes : Lis
   acted-in : actionSize * (to - from) ≤ length (drop (actionSize * from) actions)
   acted-in = rw (length-drop (actionSize * from) actions) (omega (arith, run .held, run .some, run .ready .acted))
 
-  to-is : from + (to - from) ≡ to
-  to-is = omega (arith, run .some)
-
   -- ---- without transforms
   module _ (none : shapeAt shapes from ≡ Absent) (place : ℕ) (from-there : drop place map ≡ drop from map) where
     pub plain-ready : plain.RunReady cells order dof (onward (CENTRED * from) frames) (onward (actionSize * from) actions) (onward place map) (to - from)
@@ -117,8 +127,8 @@ module _ (cells order dof : ℕ) (frames actions : List Float) (map shapes : Lis
 
       pub plain-continued : (s r : Float) (h h′ g g′ : List Float) → plain.RunAdded order dof (onward (CENTRED * from) frames) (onward (actionSize * from) actions) (onward place map) n offset weight (to - from) s r h h′ g g′
           → Continued order dof frames actions map shapes transforms n offset weight from to s r h h′ g g′
-      plain-continued s r h h′ g g′ added s₀ h₀ g₀ before =
-          rw to-is at (first-joined order _ _ _ _ from (to - from) s₀ s r h₀ h h′ g₀ g g′ plain-continues (rw (rest (CENTRED * from) frames, rest (actionSize * from) actions, rest place map, from-there) at added) before)
+      plain-continued s r h h′ g g′ added =
+          continued-by order _ _ _ _ from (to - from) s r h h′ g g′ plain-continues (rw (rest (CENTRED * from) frames, rest (actionSize * from) actions, rest place map, from-there) at added)
 
   -- ---- through transforms of six rows
   module _ (cols : ℕ) (sized : shapeAt shapes from ≡ Sized 6 cols) (place : ℕ) (from-there : drop place map ≡ drop from map) where
@@ -147,5 +157,6 @@ module _ (cells order dof : ℕ) (frames actions : List Float) (map shapes : Lis
 
       pub sized-continued : (s r : Float) (h h′ g g′ : List Float) → pairs.RunAdded order cols (onward (CENTRED * from) frames) (onward (actionSize * from) actions) (onward place map) (onward (ROOM * from) transforms) n offset weight (to - from) s r h h′ g g′
           → Continued order dof frames actions map shapes transforms n offset weight from to s r h h′ g g′
-      sized-continued s r h h′ g g′ added s₀ h₀ g₀ before =
-          rw to-is at (first-joined order _ _ _ _ from (to - from) s₀ s r h₀ h h′ g₀ g g′ sized-continues (rw (rest (CENTRED * from) frames, rest (actionSize * from) actions, rest place map, rest (ROOM * from) transforms, from-there) at added) before)
+      sized-continued s r h h′ g g′ added =
+          continued-by order _ _ _ _ from (to - from) s r h h′ g g′ sized-continues
+          (rw (rest (CENTRED * from) frames, rest (actionSize * from) actions, rest place map, rest (ROOM * from) transforms, from-there) at added)

@@ -1,5 +1,5 @@
 -- The frames of a call, each added through the transform of its word: what the work may rely on, and what it leaves. Definitions only.
-use Prim.Native.Nat.{ℕ, _+_, _*_, _≤_, _<_}
+use Prim.Native.Nat.{ℕ, _+_, _-_, _*_, _≤_, _<_}
 use mathlib.Core.Path.{_≡_}
 use mathlib.Core.Bool.{false}
 use mathlib.Core.List.{List}
@@ -57,12 +57,18 @@ abbrev pub Summed : ℕ → ℕ → List Float → List Float → List ℕ → L
 Summed order dof frames actions map shapes transforms n offset weight k s h h′ g g′ =
     FirstAdded order (throughUnder dof frames actions map shapes transforms n offset weight) (costAt frames actions n offset weight) k zeroF s h h′ g g′
 
--- the frames from `from` up to `to` are added after those before them, whatever was there at first
+-- a call's frames from `from` on
+abbrev pub framesFrom : ℕ → Frames → Frames
+framesFrom from f = record {
+  layout = record { count = f .layout .count - from; place = λ k. f .layout .place (from + k); width = λ k. f .layout .width (from + k) };
+  block = λ k. f .block (from + k);
+  vector = λ k. f .vector (from + k);
+}
+
+-- those from `from` up to `to` are added one after the other, and their costs to a number that was there
 abbrev pub Continued : ℕ → ℕ → List Float → List Float → List ℕ → List ℕ → List Float → List Float → Float → Float → ℕ → ℕ → Float → Float → List Float → List Float → List Float → List Float → Type 0
 Continued order dof frames actions map shapes transforms n offset weight from to s r h h′ g g′ =
-    (s₀ : Float) (h₀ g₀ : List Float)
-    → FirstAdded order (throughUnder dof frames actions map shapes transforms n offset weight) (costAt frames actions n offset weight) from s₀ s h₀ h g₀ g
-    → FirstAdded order (throughUnder dof frames actions map shapes transforms n offset weight) (costAt frames actions n offset weight) to s₀ r h₀ h′ g₀ g′
+    FirstAdded order (framesFrom from (throughUnder dof frames actions map shapes transforms n offset weight)) (λ k. costAt frames actions n offset weight (from + k)) (to - from) s r h h′ g g′
 
 -- all of them with the fixed set
 abbrev pub AllAdded : ℕ → ℕ → List Float → List Float → List Float → List ℕ → List ℕ → List Float → List Float → Float → Float → Float → List Float → List Float → List Float → List Float → Type 0

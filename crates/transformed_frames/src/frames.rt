@@ -133,7 +133,7 @@ fn pull_at(
     frame_cost::frame_pull(x, f, normal, offset, weight)
 }
 
-// Whether two shapes are the same.
+// Whether two shapes are the same. This only chooses a way: were the answer false, frames would go one by one.
 fn same_shape(a: Shape, b: Shape) -> bool
     ensures { λ r. ⌜ (r ≡ true → a ≡ b) ⌝ }
 {
@@ -149,7 +149,7 @@ fn same_shape(a: Shape, b: Shape) -> bool
     }
 }
 
-// Where the run of frames of one shape ends that begins at frame `from`.
+// Where the run of frames of one shape ends that begins at frame `from`. A shorter run is right too, and slower.
 fn run_end(shapes: &[u32], from: usize, count: usize) -> usize
     requires { ⌜ from < count ⌝ }
     ensures { λ r. ⌜ (from < r) × (r ≤ count) × Alike (now (shapes .entry)) from r ⌝ }
@@ -223,8 +223,8 @@ fn add_singles(
     sum
 }
 
-// Whether the frames of a run through transforms of so many rows and columns are worked out side by side.
-fn is_thin(rows: usize, cols: usize) -> bool
+// Whether the frames of a run through transforms of so many rows and columns are worked out side by side. Either way is right: this one tells which is faster.
+fn in_pairs(rows: usize, cols: usize) -> bool
     ensures { λ r. ⌜ (r ≡ true → (rows ≡ 6) × ((cols ≡ 3) ⊎ (cols ≡ 5))) ⌝ }
 {
     if rows != 6 {
@@ -237,7 +237,7 @@ fn is_thin(rows: usize, cols: usize) -> bool
 }
 
 // The frames of a run through transforms of six rows and three or five columns, side by side.
-fn add_thin(
+fn add_pairs(
     h: &mut [f64],
     g: &mut [f64],
     dof: usize,
@@ -314,8 +314,8 @@ fn add_sized(
     requires { ⌜ RunReady (length (now h)) (length (now g)) dof (now frames) (now actions) (now map) (now shapes) (now transforms) first end × (shapeAt (now shapes) first ≡ Sized rows cols) ⌝ }
     ensures { λ r. ⌜ Continued (length (now (g .entry))) dof (now (frames .entry)) (now (actions .entry)) (now (map .entry)) (now (shapes .entry)) (now (transforms .entry)) normal offset weight first end sum r (now (h .entry)) (now (h .exit)) (now (g .entry)) (now (g .exit)) ⌝ }
 {
-    if is_thin(rows, cols) {
-        return add_thin(
+    if in_pairs(rows, cols) {
+        return add_pairs(
             h,
             g,
             dof,

@@ -40,7 +40,7 @@ loop-again c =
       ended .run-end .ensures .1,
       added .add-run .kept .0 ∙ l .inv .1,
       added .add-run .kept .1 .0 ∙ l .inv .2,
-      run-summed _ _ _ _ _ _ _ _ _ _ _ _ _ _ _ _ (l .h) _ _ (l .g) _ (l .inv .2) (added .add-run .ensures) (l .inv .3),
+      run-summed _ _ _ _ _ _ _ _ _ _ _ _ _ _ _ _ (l .h) _ _ (l .g) _ (l .inv .2) (ended .run-end .ensures .0) (added .add-run .ensures) (l .inv .3),
     )
 
 returns : tie.Need-returns Inv-loop μ-loop

@@ -11,13 +11,13 @@ use Rattle.transformed_frames.proofs.frames.add_singles.Tie as tie
 
 abbrev Inv-loop : tie.InvT-loop
 Inv-loop h₀ g₀ dof frames actions map shapes transforms normal offset weight first end start sum₀ m₀ u₀ k₀ h g sum m u k =
-    (k ≤ end) × (length h ≡ length h₀) × (length g ≡ length g₀) × (length m ≡ 90) × (length u ≡ 90) × Continued (length g₀) dof frames actions map shapes transforms normal offset weight first k start sum h₀ h g₀ g
+    (k ≤ end) × (length h ≡ length h₀) × (length g ≡ length g₀) × (length m ≡ 90) × (length u ≡ 90) × Continued (length g₀) dof frames actions map shapes transforms normal offset weight first k start sum h₀ h g₀ g × (first ≤ k)
 
 abbrev μ-loop : tie.MeasureT-loop
 μ-loop h₀ g₀ dof frames actions map shapes transforms normal offset weight first end start sum₀ m₀ u₀ k₀ h g sum m u k = end - k
 
 loop-holds : tie.Need-loop-holds Inv-loop μ-loop
-loop-holds c = (c .before .before .before .before .before .before .before .pre .1, refl, refl, refl, refl, continued-none _ _ _ _ _ _ _ _ _ _ _ _ _ _)
+loop-holds c = (c .before .before .before .before .before .before .before .pre .1, refl, refl, refl, refl, continued-none _ _ _ _ _ _ _ _ _ _ _ _ _ _, search needs)
 
 pull-at-requires : tie.Need-pull-at-requires Inv-loop μ-loop
 pull-at-requires c κs =
@@ -50,7 +50,8 @@ loop-again c =
       added .add-frame .kept .1 .0 ∙ l .inv .2,
       added .add-frame .ensures .1,
       added .add-frame .ensures .2,
-      continued-more _ _ _ _ _ _ _ _ _ _ _ _ _ _ (l .k) _ _ _ _ (l .sum) (l .h) _ (l .g) _ (l .inv .2) (shaped .before .lookup .ensures) (shaped .shape-at .ensures) (shaped .before .before .pull-at .ensures) (added .add-frame .ensures .0) (l .inv .5),
+      continued-more _ _ _ _ _ _ _ _ _ _ _ _ _ _ (l .k) _ _ _ _ (l .sum) (l .h) _ (l .g) _ (l .inv .6) (l .inv .2) (shaped .before .lookup .ensures) (shaped .shape-at .ensures) (shaped .before .before .pull-at .ensures) (added .add-frame .ensures .0) (l .inv .5),
+      omega (arith, l .inv .6),
     )
 
 returns : tie.Need-returns Inv-loop μ-loop

@@ -5,12 +5,12 @@ use Rattle.transformed_frames.proofs.Runs.{shape-is}
 use Rattle.transformed_frames.proofs.frames.add_sized.Statement.{statement}
 use Rattle.transformed_frames.proofs.frames.add_sized.Tie as tie
 
-add-thin-requires : tie.Need-add-thin-requires
-add-thin-requires c κs =
+add-pairs-requires : tie.Need-add-pairs-requires
+add-pairs-requires c κs =
     let tested = c .before .before in
     let asked = tested .before in
     let start = asked .before .before .before .before .before .before .before .before in
-    let thin = asked .is-thin .ensures (tested .if1 .taken) in
+    let thin = asked .in-pairs .ensures (tested .if1 .taken) in
     (start .pre .0, shape-is _ _ _ _ _ (start .pre .1) (thin .0) refl, thin .1)
 
 pub add-sized-spec : {M : Type 1} → statement M
@@ -18,7 +18,7 @@ add-sized-spec =
     tie.close
     (tie.spec
     (λ c κs. search needs)
-    add-thin-requires
+    add-pairs-requires
     (λ c. search needs)
     (λ c. search needs)
     (λ c. search needs)

@@ -1,12 +1,12 @@
--- `transformed_frames::frames::add_thin` meets its contract: the frames of the lists from the run's first on are the run's. Assumes nothing.
+-- `transformed_frames::frames::add_pairs` meets its contract: the frames of the lists from the run's first on are the run's. Assumes nothing.
 use Prim.Native.Nat.{_*_, _≤_}
 use mathlib.Core.Path.{refl}
 use native.Mathlib.Omega.{arith}
 use borrow.Author.Needs.{needs}
 use lib.ListN.{length}
 use Rattle.transformed_frames.proofs.Runs.{shape-is, is-five, sized-ready, sized-continued}
-use Rattle.transformed_frames.proofs.frames.add_thin.Statement.{statement}
-use Rattle.transformed_frames.proofs.frames.add_thin.Tie as tie
+use Rattle.transformed_frames.proofs.frames.add_pairs.Statement.{statement}
+use Rattle.transformed_frames.proofs.frames.add_pairs.Tie as tie
 
 -- the run's first transform is there
 room : (c : tie.Start) → 81 * (c .args .first) ≤ length (c .args .transforms .now)
@@ -54,8 +54,8 @@ returns-2 c =
     let start = placed .before .before .before .before .before .before .before .before in
     sized-continued _ _ _ _ _ _ _ _ _ _ (start .pre .0) 5 (shape-is _ _ _ _ _ (start .pre .1) refl (is-five _ (start .pre .2) (tested .if1 .left))) _ (placed .within .ensures .1 _ refl) _ _ _ _ _ _ _ _ _ (added .add-by-five .ensures)
 
-pub add-thin-spec : {M : Type 1} → statement M
-add-thin-spec =
+pub add-pairs-spec : {M : Type 1} → statement M
+add-pairs-spec =
     tie.close
     (tie.spec
     (λ c. search needs)
