@@ -305,7 +305,7 @@ pub fn add_run(
 }
 
 // All frames of a call under a plane: each one's block and vector are added where the map says, and the cost, with the fixed set's, is the answer.
-// Without a map the costs are summed in a loop of their own, which is faster.
+// Without a map the costs are summed in a loop of their own, which is faster; so is choosing here and not in `add_run`, one call less.
 pub fn add_all(
     h: &mut [f64],
     g: &mut [f64],
@@ -326,7 +326,22 @@ pub fn add_all(
         let alone = frame_cost::frames_cost(frames, actions, normal, offset, weight, count);
         return frame_cost::with_fixed(alone, fixed, normal, offset, weight);
     }
-    let sum = add_run(
+    if dof == 3 && all_mapped(map, count) {
+        let threes = add_threes(
+            h,
+            g,
+            frames,
+            actions,
+            map,
+            normal,
+            offset,
+            weight,
+            count,
+            0.0,
+        );
+        return frame_cost::with_fixed(threes, fixed, normal, offset, weight);
+    }
+    let sum = add_frames(
         h,
         g,
         dof,
