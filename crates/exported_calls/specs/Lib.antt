@@ -1,3 +1,4 @@
 pub mod Builds
+pub mod Cards
 pub mod Row
 pub mod Laws

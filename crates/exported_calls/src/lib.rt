@@ -1,6 +1,8 @@
 // Calls of the exported functions, one after the other. What is proved of them comes from the exported contracts alone: accumulating calls make the chain that
 // demand 3 speaks of, and leave what it says; a match list goes through the product that multiplying has left; the two builds agree where the survey rule does
-// not refuse.
+// not refuse; a list comes back from its card, and a card from its list.
+use maghnelt::maghnelt_card_read;
+use maghnelt::maghnelt_card_write;
 use maghnelt::maghnelt_frames_accumulate;
 use maghnelt::maghnelt_frames_accumulate_transformed;
 use maghnelt::maghnelt_frames_build;
@@ -19,6 +21,7 @@ ghost use Rattle.plane_moments.specs.Build.{outputs};
 ghost use Rattle.normal_list.specs.Work.{framesMade, matchesMade};
 ghost use Rattle.exported_calls.specs.Row.{InARow};
 ghost use Rattle.exported_calls.specs.Builds.{Agree};
+ghost use Rattle.exported_calls.specs.Cards.{Back};
 
 // What four calls return.
 pub struct Numbers {
@@ -196,4 +199,28 @@ pub fn both_builds(
         strict_dropped,
     );
     Answers { plain, strict }
+}
+
+// What the calls on cards return.
+pub struct Turns {
+    pub written: u32,
+    pub read: u32,
+}
+
+// A list written to a card, and read again.
+pub fn written_and_read(moments: &[u64], card: &mut [u64], again: &mut [u64]) -> Turns
+    ensures { λ r. ⌜ Back (now (moments .entry)) (now (card .entry)) (now (again .entry)) (r .written) (r .read) (now (again .exit)) ⌝ }
+{
+    let written = maghnelt_card_write(moments, card);
+    let read = maghnelt_card_read(card, again);
+    Turns { written, read }
+}
+
+// A card read to a list, and written again.
+pub fn read_and_written(card: &[u64], moments: &mut [u64], again: &mut [u64]) -> Turns
+    ensures { λ r. ⌜ Back (now (card .entry)) (now (moments .entry)) (now (again .entry)) (r .read) (r .written) (now (again .exit)) ⌝ }
+{
+    let read = maghnelt_card_read(card, moments);
+    let written = maghnelt_card_write(moments, again);
+    Turns { written, read }
 }

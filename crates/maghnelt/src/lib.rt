@@ -5,6 +5,7 @@ ghost use Rattle.square_root.specs.Computed.{squareRoot};
 ghost use Rattle.total_order.specs.Key.{keyOf};
 ghost use Rattle.refusals.specs.Refusal.{Answered};
 ghost use Rattle.moment_lists.specs.Calls.{FromPoints, Pushes, Merges, Transforms, FindsMean, FindsPlane};
+ghost use Rattle.cards.specs.Calls.{Writes, Reads};
 ghost use Rattle.plane_lists.specs.Calls.{newRefusal, newPlane, SigmaAnswered};
 ghost use Rattle.normal_blocks.specs.Map.{remapped};
 ghost use Rattle.normal_blocks.specs.Calls.{remapRefusal};
@@ -98,6 +99,22 @@ pub extern "C" fn maghnelt_moments_plane(
     ensures { λ r. ⌜ FindsPlane (now (moments .entry)) (now (decomposition .entry)) (now (out .entry)) (now (found .entry)) r (now (out .exit)) (now (found .exit)) ⌝ }
 {
     moment_lists::plane(moments, decomposition, out, found)
+}
+
+// The card of a list of moments, in groups of eight records with their counts first; both as bit patterns.
+#[no_mangle]
+pub extern "C" fn maghnelt_card_write(moments: &[u64], card: &mut [u64]) -> u32
+    ensures { λ r. ⌜ Writes (now (moments .entry)) (now (card .entry)) r (now (card .exit)) ⌝ }
+{
+    cards::card_write(moments, card)
+}
+
+// The list of moments of a card.
+#[no_mangle]
+pub extern "C" fn maghnelt_card_read(card: &[u64], moments: &mut [u64]) -> u32
+    ensures { λ r. ⌜ Reads (now (card .entry)) (now (moments .entry)) r (now (moments .exit)) ⌝ }
+{
+    cards::card_read(card, moments)
 }
 
 // The plane of a normal of any length.

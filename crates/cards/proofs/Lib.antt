@@ -1,0 +1,4 @@
+pub mod Laws
+pub mod Order
+pub mod Restored
+pub mod Worked

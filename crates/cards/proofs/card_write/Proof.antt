@@ -1,0 +1,44 @@
+-- `cards::card_write` meets its contract: reason 3, then the whole groups, then a last shorter one. Assumes nothing.
+use mathlib.Core.Path.{refl, sym, _∙_}
+use native.Mathlib.Omega.{arith}
+use borrow.Author.Needs.{needs}
+use Rattle.refusals.specs.Refusal.{refused, accepted}
+use Rattle.cards.specs.Card.{grouped}
+use Rattle.cards.specs.Calls.{cardRefusal}
+use Rattle.cards.proofs.Laws.{as-long}
+use Rattle.cards.proofs.card_write.Statement.{statement}
+use Rattle.cards.proofs.card_write.Tie as tie
+
+returns : tie.Need-returns
+unfolding cardRefusal
+returns c = refused (rw (← c .before .bad-lengths .ensures, c .if1 .taken))
+
+write-groups-requires : tie.Need-write-groups-requires
+write-groups-requires c κs =
+    let table = c .before .before in
+    let test = table .before in
+    (table .table .ensures, as-long _ _ (sym (test .before .bad-lengths .ensures) ∙ test .if1 .left), omega arith)
+
+write-last-requires : tie.Need-write-last-requires
+unfolding grouped
+write-last-requires c κs = (refl, c .before .before .before .write-groups .ensures)
+
+returns-2 : tie.Need-returns-2
+unfolding cardRefusal
+returns-2 c =
+    let last = c .before .before in
+    let test = last .before .before .before .before .before .before .before .before in
+    accepted (rw (← test .before .bad-lengths .ensures, test .if1 .left)) (last .write-last .ensures)
+
+pub card-write-spec : {M : Type 1} → statement M
+card-write-spec =
+    tie.close
+    (tie.spec
+    (λ c κs. search needs)
+    returns
+    (λ c κs. search needs)
+    write-groups-requires
+    (λ c. search needs)
+    write-last-requires
+    (λ c. search needs)
+    returns-2)

@@ -1,0 +1,15 @@
+-- `cards::places::table` meets its contract: antt works out the list that the rule gives and compares it with the table, and `getD-listed` gives the rule at
+-- each entry. Assumes nothing.
+use Prim.Native.Nat.{ℕ, _/_, _%_}
+use Rattle.point_moments.specs.Moments.{MOMENTS}
+use Rattle.cards.specs.Card.{GROUPED, cardPlace, listed}
+use Rattle.cards.proofs.Laws.{getD-listed}
+use Rattle.cards.proofs.places.table.Statement.{statement}
+use Rattle.cards.proofs.places.table.Tie as tie
+
+returns : tie.Need-returns
+unfolding listed
+returns c = getD-listed GROUPED (λ i. cardPlace (i % MOMENTS) (i / MOMENTS))
+
+pub table-spec : {M : Type 1} → statement M
+table-spec = tie.close (tie.spec returns)

@@ -1,0 +1,15 @@
+-- `exported_calls::read_and_written` meets its contract: the exported contracts of the two calls, and `read-then-write`. Assumes nothing.
+use borrow.Author.Needs.{needs}
+use Rattle.cards.proofs.Restored.{read-then-write}
+use Rattle.exported_calls.proofs.read_and_written.Statement.{statement}
+use Rattle.exported_calls.proofs.read_and_written.Tie as tie
+
+returns : tie.Need-returns
+returns c n records same same′ =
+    let written = c .before .before in
+    let read = written .before .before .before .before .before in
+    read-then-write n _ _ _ _ _ _ _ records same same′ (read .maghnelt-card-read .ensures) (written .maghnelt-card-write .ensures)
+
+pub read-and-written-spec : {M : Type 1} → statement M
+read-and-written-spec =
+    tie.close (tie.spec (λ c κs. search needs) (λ c κs. search needs) (λ c. search needs) (λ c. search needs) returns)
