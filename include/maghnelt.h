@@ -4,7 +4,7 @@
  * A function that can refuse returns a uint32_t: 0 for accepted, otherwise the number of the reason; a refused
  * call writes nothing. A slice is a pointer and then a length in elements; every pointer is non-null and aligned,
  * also where the length is 0, and a slice that is written overlaps no other argument. A NaN that is written may
- * have any sign and payload.
+ * have any sign and payload, but the calls on cards keep the bits of every number.
  */
 #ifndef MAGHNELT_H
 #define MAGHNELT_H
@@ -32,6 +32,7 @@ extern "C" {
 #define MAGHNELT_MAX_WORDS 1024   /* words of a block map or of an index list */
 #define MAGHNELT_MAX_ORDER 1024   /* rows of a Hessian */
 #define MAGHNELT_MAX_MATCHES 65536
+#define MAGHNELT_MAX_RECORDS 65536 /* records of a moment list on a card */
 
 /*
  * Why a call is turned away. A call tests the reasons that its comment names, in that order, and answers the first that
@@ -69,6 +70,13 @@ extern "C" {
  * be empty where no word has a transform.
  */
 #define MAGHNELT_NO_TRANSFORM UINT32_C(0xFFFFFFFF)
+
+/*
+ * A card stores a moment list in groups of this many records. In a whole group, number f of record r, both counted from 0,
+ * stands at place MAGHNELT_GROUP * f + r of the group's numbers: first the counts of all its records, then the first numbers
+ * of their sums, and so on. A last shorter group is in record order, as the list itself is.
+ */
+#define MAGHNELT_GROUP 8
 
 /* ---- leaves ---- */
 
@@ -115,6 +123,20 @@ uint32_t maghnelt_moments_mean_and_scatter(const double *moments, size_t moments
  */
 uint32_t maghnelt_moments_plane(const double *moments, size_t moments_length, const double *decomposition,
                                 size_t decomposition_length, double *out, size_t out_length, uint32_t *found);
+
+/* ---- cards: moment lists of 0 to MAGHNELT_MAX_RECORDS records of MAGHNELT_MOMENTS numbers ---- */
+
+/*
+ * The card of a moment list: every number is moved to its place with the bits that it has, a NaN too. card is as long as
+ * moments. Refused by 3 if moments is not whole records or more than MAGHNELT_MAX_RECORDS, or if card has another length.
+ */
+uint32_t maghnelt_card_write(const double *moments, size_t moments_length, double *card, size_t card_length);
+
+/*
+ * The moment list of a card: the inverse of _write, bit for bit in both directions. moments is as long as card. Refused by
+ * 3 if card is not whole records or more than MAGHNELT_MAX_RECORDS, or if moments has another length.
+ */
+uint32_t maghnelt_card_read(const double *card, size_t card_length, double *moments, size_t moments_length);
 
 /* ---- planes: MAGHNELT_PLANE numbers ---- */
 

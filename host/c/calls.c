@@ -3,6 +3,7 @@
 
 #include <math.h>
 #include <stdio.h>
+#include <string.h>
 
 /* A slice is a pointer and then a length in elements. */
 #define SLICE(array) (array), sizeof(array) / sizeof((array)[0])
@@ -72,6 +73,37 @@ static void no_answer(void) {
            "no points have no mean, and the output is left");
     expect(maghnelt_moments_push(record, MAGHNELT_MOMENTS - 1, SLICE(point)) == 3 && record[0] == 7,
            "a short record is refused and left");
+}
+
+/* One record more than a group has, number f of record k being 100 * k + f, but for a NaN with a sign and a payload. */
+static void cards(void) {
+    const size_t whole = MAGHNELT_GROUP * MAGHNELT_MOMENTS;
+    const uint64_t bits = UINT64_C(0xFFF8000000000B0B);
+    double list[(MAGHNELT_GROUP + 1) * MAGHNELT_MOMENTS];
+    double card[(MAGHNELT_GROUP + 1) * MAGHNELT_MOMENTS] = {7};
+    double back[(MAGHNELT_GROUP + 1) * MAGHNELT_MOMENTS] = {7};
+
+    for (int k = 0; k <= MAGHNELT_GROUP; ++k) {
+        for (int f = 0; f < MAGHNELT_MOMENTS; ++f) {
+            list[MAGHNELT_MOMENTS * k + f] = 100 * k + f;
+        }
+    }
+    /* Number 2 of record 5. */
+    memcpy(&list[5 * MAGHNELT_MOMENTS + 2], &bits, sizeof bits);
+
+    expect(maghnelt_card_write(SLICE(list), card, whole) == 3 && card[0] == 7, "a short card is refused and left");
+    expect(maghnelt_card_write(list, whole - 1, card, whole - 1) == 3 && card[0] == 7, "a part of a record is refused");
+    expect(maghnelt_card_write(list, 0, card, 0) == 0 && card[0] == 7, "an empty list is accepted");
+    expect(maghnelt_card_write(SLICE(list), SLICE(card)) == 0, "a list is accepted");
+    expect(card[0] == 0 && card[1] == 100 && card[7] == 700, "the counts of a group come first");
+    expect(card[8] == 1 && card[9] == 101 && card[whole - 1] == 700 + MAGHNELT_MOMENTS - 1, "and then all other numbers");
+    expect(memcmp(&card[8 * 2 + 5], &bits, sizeof bits) == 0, "a NaN keeps its bits");
+    expect(memcmp(card + whole, list + whole, sizeof list - whole * sizeof list[0]) == 0, "a shorter group is left in record order");
+
+    expect(maghnelt_card_read(card, whole, SLICE(back)) == 3 && back[0] == 7, "a list that is too long is refused and left");
+    expect(maghnelt_card_read(card, 0, back, 0) == 0 && back[0] == 7, "an empty card is accepted");
+    expect(maghnelt_card_read(SLICE(card), SLICE(back)) == 0, "a card is accepted");
+    expect(memcmp(back, list, sizeof list) == 0, "what is read is what was written");
 }
 
 static void planes(void) {
@@ -469,6 +501,7 @@ int main(void) {
     leaves();
     moments();
     no_answer();
+    cards();
     planes();
     block_maps();
     transform();

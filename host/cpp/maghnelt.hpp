@@ -232,6 +232,25 @@ class Moments {
     Record numbers;
 };
 
+// ---- cards: moment lists in groups, the counts of each group first ----
+
+// The numbers of the card that stores a list. A whole group is MAGHNELT_GROUP records, and on the card a matrix of as many rows, a
+// record a row: its first column has the counts. A last shorter group is as it is in the list, a record a column. Every number keeps
+// its bits, a NaN too.
+inline Eigen::VectorXd card_write(const MomentsList &moments) {
+    Eigen::VectorXd card(moments.size());
+    detail::accept(maghnelt_card_write(MAGHNELT_LENT(moments), MAGHNELT_LENT(card)));
+    return card;
+}
+
+// The list that a card stores, bit for bit.
+inline MomentsList card_read(const Eigen::VectorXd &card) {
+    // Numbers behind the last whole record find no place, and the library refuses the different lengths.
+    MomentsList moments(MAGHNELT_MOMENTS, card.size() / MAGHNELT_MOMENTS);
+    detail::accept(maghnelt_card_read(MAGHNELT_LENT(card), MAGHNELT_LENT(moments)));
+    return moments;
+}
+
 // ---- block maps: an offset for each frame, or none ----
 
 class BlockMap {

@@ -50,6 +50,19 @@ extern "C" {
         found: *mut u32,
     ) -> u32;
 
+    pub(crate) fn maghnelt_card_write(
+        moments: *const f64,
+        moments_length: usize,
+        card: *mut f64,
+        card_length: usize,
+    ) -> u32;
+    pub(crate) fn maghnelt_card_read(
+        card: *const f64,
+        card_length: usize,
+        moments: *mut f64,
+        moments_length: usize,
+    ) -> u32;
+
     pub(crate) fn maghnelt_plane_new(
         normal: *const f64,
         normal_length: usize,

@@ -9,6 +9,7 @@
 //! | [`Moments::from_points`], [`push`](Moments::push), [`merge`](Moments::merge) | count, sum and summed outer products of points |
 //! | [`Moments::transformed`] | the moments of the points moved by an affine map |
 //! | [`Moments::mean_and_scatter`], [`Moments::plane`] | mean and scatter of the points, and the plane that fits them |
+//! | [`card_write`], [`card_read`] | lists of moments in the order of a card, where counts come first, and back |
 //! | [`Plane::new`] | a plane with a unit normal |
 //! | [`point_to_plane_sigma`] | the standard deviation of a point's distance from a plane |
 //! | [`BlockMap`], [`BlockMap::remapped`] | where the frames of a factor go in the Hessian |
@@ -43,13 +44,15 @@
 //!
 //! # NaN
 //!
-//! A NaN that is returned may have any sign and payload. A NaN's own sign and payload matter only where
-//! a function takes bit patterns (`u64`), and for the eigenvalues of a [`Decomposition`].
+//! A NaN that is returned may have any sign and payload, but [`card_write`] and [`card_read`] keep the bits of
+//! every number. Elsewhere a NaN's own sign and payload matter only where a function takes bit patterns (`u64`), and for the
+//! eigenvalues of a [`Decomposition`].
 
 #![warn(missing_docs)]
 
 mod block_map;
 mod bundle;
+mod cards;
 mod ffi;
 mod frame_factor;
 mod frames;
@@ -67,6 +70,7 @@ mod transforms;
 
 pub use block_map::{BlockMap, UNMAPPED};
 pub use bundle::{Bundle, BundleFit};
+pub use cards::{card_read, card_write};
 pub use frame_factor::FrameFactor;
 pub use frames::{frames_fit, Action, Centred, FitSums};
 pub use linearized::Linearized;
@@ -76,8 +80,8 @@ pub use normal_equations::NormalEquations;
 pub use plane::{point_to_plane_sigma, Plane};
 pub use refusal::Refusal;
 pub use sizes::{
-    ACTION, CENTRED, DECOMPOSITION, MATCH, MAX_DOF, MAX_FRAMES, MAX_MATCHES, MAX_ORDER, MAX_POINTS,
-    MAX_WORDS, MOMENTS, PLANE, TRANSFORM,
+    ACTION, CENTRED, DECOMPOSITION, GROUP, MATCH, MAX_DOF, MAX_FRAMES, MAX_MATCHES, MAX_ORDER,
+    MAX_POINTS, MAX_RECORDS, MAX_WORDS, MOMENTS, PLANE, TRANSFORM,
 };
 pub use square_root::sqrt;
 pub use total_order::total_order_key;

@@ -282,6 +282,13 @@ impl Moments {
     pub const fn as_array(&self) -> &[f64; MOMENTS] {
         &self.0
     }
+
+    /// The numbers of sets that follow each other.
+    #[inline]
+    pub(crate) fn flattened(sets: &[Moments]) -> &[f64] {
+        // SAFETY: a `Moments` is laid out as its array, so that as many numbers lie there, and they live as long.
+        unsafe { std::slice::from_raw_parts(sets.as_ptr().cast(), sets.len() * MOMENTS) }
+    }
 }
 
 /// The empty set.

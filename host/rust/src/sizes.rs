@@ -27,3 +27,8 @@ pub const MAX_WORDS: usize = 1024;
 pub const MAX_ORDER: usize = 1024;
 /// The most matches of one call.
 pub const MAX_MATCHES: usize = 65_536;
+/// The most records of a moment list on a card.
+pub const MAX_RECORDS: usize = 65_536;
+
+/// The records of a group on a card; a last group may have fewer.
+pub const GROUP: usize = 8;

@@ -146,6 +146,76 @@ pub fn moments_plane(
     })
 }
 
+/// Writes the list `moments` to `card` in the order of a card: number f of record r of a whole group of
+/// [`GROUP`](crate::GROUP) records goes to place `GROUP * f + r` of the group's numbers, and a last shorter group is left in
+/// record order. Numbers keep their bits, NaNs too.
+///
+/// # Errors
+///
+/// [`Refusal::Length`]: `moments` is not whole records of [`MOMENTS`](crate::MOMENTS) numbers or more than
+/// [`MAX_RECORDS`](crate::MAX_RECORDS), or `card` has another length than `moments`.
+///
+/// # Examples
+///
+/// ```
+/// use maghnelt::{slices, GROUP, MOMENTS};
+///
+/// # fn main() -> Result<(), maghnelt::Refusal> {
+/// // One group. Every number of a record is the number of its record.
+/// let moments: [f64; GROUP * MOMENTS] = std::array::from_fn(|place| (place / MOMENTS) as f64);
+/// let mut card = [0.0; GROUP * MOMENTS];
+/// slices::card_write(&moments, &mut card)?;
+/// assert_eq!(card[..GROUP], [0.0, 1.0, 2.0, 3.0, 4.0, 5.0, 6.0, 7.0]);
+/// # Ok(())
+/// # }
+/// ```
+#[inline]
+pub fn card_write(moments: &[f64], card: &mut [f64]) -> Result<(), Refusal> {
+    // SAFETY: as said at the head of this file.
+    Refusal::of_answer(unsafe {
+        ffi::maghnelt_card_write(
+            moments.as_ptr(),
+            moments.len(),
+            card.as_mut_ptr(),
+            card.len(),
+        )
+    })
+}
+
+/// Writes the list that `card` stores to `moments`: the inverse of [`card_write`], bit for bit in both directions.
+///
+/// # Errors
+///
+/// [`Refusal::Length`]: `card` is not whole records of [`MOMENTS`](crate::MOMENTS) numbers or more than
+/// [`MAX_RECORDS`](crate::MAX_RECORDS), or `moments` has another length than `card`.
+///
+/// # Examples
+///
+/// ```
+/// use maghnelt::{slices, GROUP, MOMENTS};
+///
+/// # fn main() -> Result<(), maghnelt::Refusal> {
+/// let card: [f64; GROUP * MOMENTS] = std::array::from_fn(|place| place as f64);
+/// let mut moments = [0.0; GROUP * MOMENTS];
+/// slices::card_read(&card, &mut moments)?;
+/// // The second record of the group: its numbers stand GROUP places apart on the card.
+/// assert_eq!(moments[MOMENTS..][..4], [1.0, 9.0, 17.0, 25.0]);
+/// # Ok(())
+/// # }
+/// ```
+#[inline]
+pub fn card_read(card: &[f64], moments: &mut [f64]) -> Result<(), Refusal> {
+    // SAFETY: as said at the head of this file.
+    Refusal::of_answer(unsafe {
+        ffi::maghnelt_card_read(
+            card.as_ptr(),
+            card.len(),
+            moments.as_mut_ptr(),
+            moments.len(),
+        )
+    })
+}
+
 /// Writes the unit normal and the offset of the plane `normal·x + offset = 0` to `plane`.
 ///
 /// # Errors

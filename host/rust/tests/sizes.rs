@@ -32,6 +32,8 @@ fn sizes_are_those_of_the_header() {
             ("MAX_WORDS", maghnelt::MAX_WORDS),
             ("MAX_ORDER", maghnelt::MAX_ORDER),
             ("MAX_MATCHES", maghnelt::MAX_MATCHES),
+            ("MAX_RECORDS", maghnelt::MAX_RECORDS),
+            ("GROUP", maghnelt::GROUP),
         ]
     );
 }
