@@ -2,10 +2,10 @@
 
 use oracle::generator::Generator;
 use oracle::groups::{
-    bundle_fit, bundle_linearize, frames_accumulate, frames_accumulate_transformed, frames_build,
-    frames_build_strict, frames_fit, frames_linearize, lists, match_linearize, matches_accumulate,
-    matches_accumulate_transformed, matches_linearize, moments, moments_plane, number, order,
-    plane_new, remap, root_steps, scatter, sigma, sqrt, transform,
+    bundle_fit, bundle_linearize, cards, frames_accumulate, frames_accumulate_transformed,
+    frames_build, frames_build_strict, frames_fit, frames_linearize, lists, match_linearize,
+    matches_accumulate, matches_accumulate_transformed, matches_linearize, moments, moments_plane,
+    number, order, plane_new, remap, root_steps, scatter, sigma, sqrt, transform,
 };
 use oracle::report::Report;
 use std::collections::BTreeMap;
@@ -75,6 +75,11 @@ const GROUPS: &[Group] = &[
         name: "transform",
         about: "a map's transforms multiplied by a further one against a model",
         run: transform::run,
+    },
+    Group {
+        name: "cards",
+        about: "cards written and read, and one after the other, against a model",
+        run: cards::run,
     },
     Group {
         name: "frames_build",
@@ -243,7 +248,7 @@ fn usage() -> String {
     let mut text = format!(
         "usage: oracle [GROUP ...] [--count N] [--seed N]\n\n\
          Compares the proved library with plain Rust: the groups that are named, or all.\n\n\
-         --count N   about so many cases a group, a frame, match or point of a bundle counting as one (default {DEFAULT_COUNT}); the fixed ones always run\n\
+         --count N   about so many cases a group, a frame, match, point of a bundle or record of a card counting as one (default {DEFAULT_COUNT}); the fixed ones always run\n\
          --seed N    the seed of the random cases (default {DEFAULT_SEED})\n\n\
          Exit status: 0 no mismatch, 1 a mismatch, 2 bad usage.\n\ngroups:"
     );

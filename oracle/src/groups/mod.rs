@@ -5,6 +5,7 @@
 
 pub mod bundle_fit;
 pub mod bundle_linearize;
+pub mod cards;
 pub mod frames_accumulate;
 pub mod frames_accumulate_transformed;
 pub mod frames_build;

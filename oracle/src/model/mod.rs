@@ -5,6 +5,7 @@
 
 pub mod blocks;
 pub mod bundle;
+pub mod cards;
 pub mod frames;
 pub mod matches;
 pub mod moments;
