@@ -3,6 +3,7 @@
 mod block_map;
 mod builds;
 mod bundles;
+mod cards;
 mod crossover;
 mod finite;
 mod fit;
@@ -32,6 +33,7 @@ const SUBJECTS: &[Subject] = &[
     ("matches", matches::measure_all),
     ("bundles", bundles::measure_all),
     ("transforms", transforms::measure_all),
+    ("cards", cards::measure_all),
 ];
 
 /// What has a table of its own.
