@@ -8,7 +8,8 @@ use lib.ListN.{length, getD}
 use lib.Seq.{ext-getD}
 use Rattle.point_moments.specs.Moments.{MOMENTS}
 use Rattle.cards.specs.Card.{GROUP, GROUPED, cardPlace, grouped, placeOf, cardOf}
-use Rattle.cards.proofs.Laws.{listPlace, place-in-group, place-last, on-card}
+use Rattle.cards.proofs.EachPlace.{listPlace, place-in-group, place-last}
+use Rattle.cards.proofs.Carried.{on-card}
 
 -- number f of record r of a whole group g is at place 8·f + r of the group's numbers
 pub in-group : (l : List ℕ) (g f r : ℕ) → g * GROUPED + GROUPED ≤ length l → f < MOMENTS → r < GROUP

@@ -10,7 +10,7 @@ use Rattle.refusals.specs.Refusal.{Answered}
 use Rattle.point_moments.specs.Moments.{MOMENTS}
 use Rattle.cards.specs.Card.{cardOf, listOf}
 use Rattle.cards.specs.Calls.{MOST_RECORDS, Records, badLengths, cardRefusal, Writes, Reads}
-use Rattle.cards.proofs.Laws.{one-card, one-list, on-card, off-card}
+use Rattle.cards.proofs.Carried.{one-card, one-list, on-card, off-card}
 
 -- the list of a list's card is the list, and the card of a card's list the card
 pub read-back : (l : List ℕ) → listOf (cardOf l) ≡ l

@@ -5,7 +5,7 @@ use borrow.Author.Needs.{needs}
 use Rattle.refusals.specs.Refusal.{refused, accepted}
 use Rattle.cards.specs.Card.{grouped}
 use Rattle.cards.specs.Calls.{cardRefusal}
-use Rattle.cards.proofs.Laws.{as-long}
+use Rattle.cards.proofs.Refused.{as-long}
 use Rattle.cards.proofs.card_write.Statement.{statement}
 use Rattle.cards.proofs.card_write.Tie as tie
 

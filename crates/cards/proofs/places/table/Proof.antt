@@ -3,7 +3,7 @@
 use Prim.Native.Nat.{ℕ, _/_, _%_}
 use Rattle.point_moments.specs.Moments.{MOMENTS}
 use Rattle.cards.specs.Card.{GROUPED, cardPlace, listed}
-use Rattle.cards.proofs.Laws.{getD-listed}
+use Rattle.cards.proofs.Lists.{getD-listed}
 use Rattle.cards.proofs.places.table.Statement.{statement}
 use Rattle.cards.proofs.places.table.Tie as tie
 

@@ -6,7 +6,8 @@ use borrow.Author.Needs.{needs}
 use lib.ListN.{length, getD}
 use Rattle.cards.specs.Card.{grouped, placeOf, listOf}
 use Rattle.cards.specs.Steps.{Carried}
-use Rattle.cards.proofs.Laws.{place-last, within, from-card, one-list, off-card}
+use Rattle.cards.proofs.EachPlace.{place-last, within}
+use Rattle.cards.proofs.Carried.{from-card, one-list, off-card}
 use Rattle.cards.proofs.reading.read_last.Statement.{statement}
 use Rattle.cards.proofs.reading.read_last.Tie as tie
 

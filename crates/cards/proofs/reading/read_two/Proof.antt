@@ -6,7 +6,8 @@ use borrow.Author.Needs.{needs}
 use lib.ListN.{length, getD, length-set}
 use Rattle.cards.specs.Card.{GROUPED, placeOf}
 use Rattle.cards.specs.Steps.{Carried}
-use Rattle.cards.proofs.Laws.{place-in-table, two-from-card}
+use Rattle.cards.proofs.EachPlace.{place-in-table}
+use Rattle.cards.proofs.Carried.{two-from-card}
 use Rattle.cards.proofs.reading.read_two.Statement.{statement}
 use Rattle.cards.proofs.reading.read_two.Tie as tie
 

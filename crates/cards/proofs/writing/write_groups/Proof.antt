@@ -5,7 +5,7 @@ use native.Mathlib.Omega.{arith}
 use borrow.Author.Needs.{needs}
 use Rattle.cards.specs.Card.{GROUPED}
 use Rattle.cards.specs.Steps.{Carried}
-use Rattle.cards.proofs.Laws.{none-yet}
+use Rattle.cards.proofs.Carried.{none-yet}
 use Rattle.cards.proofs.writing.write_groups.Statement.{statement}
 use Rattle.cards.proofs.writing.write_groups.Tie as tie
 

@@ -6,7 +6,8 @@ use borrow.Author.Needs.{needs}
 use lib.ListN.{length}
 use Rattle.cards.specs.Card.{grouped, cardOf}
 use Rattle.cards.specs.Steps.{Carried}
-use Rattle.cards.proofs.Laws.{place-last, within, onto-card, one-card, on-card}
+use Rattle.cards.proofs.EachPlace.{place-last, within}
+use Rattle.cards.proofs.Carried.{onto-card, one-card, on-card}
 use Rattle.cards.proofs.writing.write_last.Statement.{statement}
 use Rattle.cards.proofs.writing.write_last.Tie as tie
 

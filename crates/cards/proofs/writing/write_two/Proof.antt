@@ -7,7 +7,8 @@ use lib.ListN.{length, length-set}
 use Rattle.point_moments.specs.Moments.{MOMENTS}
 use Rattle.cards.specs.Card.{GROUPED, placeOf}
 use Rattle.cards.specs.Steps.{PlacedFrom, Carried}
-use Rattle.cards.proofs.Laws.{place-in-table, two-onto-card, joined}
+use Rattle.cards.proofs.EachPlace.{place-in-table}
+use Rattle.cards.proofs.Carried.{two-onto-card, joined}
 use Rattle.cards.proofs.writing.write_two.Statement.{statement}
 use Rattle.cards.proofs.writing.write_two.Tie as tie
 
