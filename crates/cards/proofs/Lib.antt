@@ -1,7 +1,7 @@
 pub mod Lists
 pub mod EachPlace
 pub mod Carried
-pub mod Refused
+pub mod Lengths
 pub mod Order
 pub mod Restored
 pub mod Worked

@@ -1,15 +1,13 @@
 -- Each way round restores the list: reading what was written, and writing what was read, gives the very bits back, for every list of 0 to 65,536 records
 -- and any content. Of the definitions, and of the two calls by their contracts. Assumes nothing.
-use Prim.Native.Nat.{ℕ, _/_, _%_, _≤_}
+use Prim.Native.Nat.{ℕ}
 use mathlib.Core.Path.{_≡_, sym, ap, _∙_}
 use mathlib.Core.List.{List}
-use native.Mathlib.Omega.{arith}
 use lib.ListN.{length}
-use borrow.Author.Tests.{le-ltb, eq-eqb}
 use Rattle.refusals.specs.Refusal.{Answered}
-use Rattle.point_moments.specs.Moments.{MOMENTS}
 use Rattle.cards.specs.Card.{cardOf, listOf}
-use Rattle.cards.specs.Calls.{MOST_RECORDS, Records, badLengths, cardRefusal, Writes, Reads}
+use Rattle.cards.specs.Calls.{Records, Writes, Reads}
+use Rattle.cards.proofs.Lengths.{taken}
 use Rattle.cards.proofs.Carried.{one-card, one-list, on-card, off-card}
 
 -- the list of a list's card is the list, and the card of a card's list the card
@@ -18,14 +16,6 @@ read-back l = one-list (listOf (cardOf l)) l (cardOf l) (off-card (cardOf l)) (o
 
 pub written-back : (card : List ℕ) → cardOf (listOf card) ≡ card
 written-back card = one-card (listOf card) (cardOf (listOf card)) card (on-card (listOf card)) (off-card card)
-
--- a list that a call takes, with an output as long
-pub taken : (n : ℕ) (from to : List ℕ) → Records n from → length to ≡ length from → cardRefusal from to ≡ 0
-unfolding cardRefusal badLengths
-taken n from to (most, size) same =
-    let whole : length from % MOMENTS ≡ 0 = omega arith in
-    let few : length from / MOMENTS ≤ MOST_RECORDS = omega arith in
-    rw (eq-eqb _ _ whole, le-ltb _ _ few, eq-eqb _ _ same)
 
 -- a call that is taken answers 0 and leaves what it should
 answered : {refusal r : ℕ} {old left new : List ℕ} → refusal ≡ 0 → Answered refusal r old left new → (r ≡ 0) × (left ≡ new)

@@ -5,7 +5,7 @@ use borrow.Author.Needs.{needs}
 use Rattle.refusals.specs.Refusal.{refused, accepted}
 use Rattle.cards.specs.Card.{grouped}
 use Rattle.cards.specs.Calls.{cardRefusal}
-use Rattle.cards.proofs.Refused.{as-long}
+use Rattle.cards.proofs.Lengths.{good-lengths}
 use Rattle.cards.proofs.card_read.Statement.{statement}
 use Rattle.cards.proofs.card_read.Tie as tie
 
@@ -17,7 +17,7 @@ read-groups-requires : tie.Need-read-groups-requires
 read-groups-requires c κs =
     let table = c .before .before in
     let test = table .before in
-    (table .table .ensures, sym (as-long _ _ (sym (test .before .bad-lengths .ensures) ∙ test .if1 .left)), omega arith)
+    (table .table .ensures, sym (good-lengths _ _ (sym (test .before .bad-lengths .ensures) ∙ test .if1 .left) .2), omega arith)
 
 read-last-requires : tie.Need-read-last-requires
 unfolding grouped

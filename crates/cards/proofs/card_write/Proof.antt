@@ -5,7 +5,7 @@ use borrow.Author.Needs.{needs}
 use Rattle.refusals.specs.Refusal.{refused, accepted}
 use Rattle.cards.specs.Card.{grouped}
 use Rattle.cards.specs.Calls.{cardRefusal}
-use Rattle.cards.proofs.Refused.{as-long}
+use Rattle.cards.proofs.Lengths.{good-lengths}
 use Rattle.cards.proofs.card_write.Statement.{statement}
 use Rattle.cards.proofs.card_write.Tie as tie
 
@@ -17,7 +17,7 @@ write-groups-requires : tie.Need-write-groups-requires
 write-groups-requires c κs =
     let table = c .before .before in
     let test = table .before in
-    (table .table .ensures, as-long _ _ (sym (test .before .bad-lengths .ensures) ∙ test .if1 .left), omega arith)
+    (table .table .ensures, good-lengths _ _ (sym (test .before .bad-lengths .ensures) ∙ test .if1 .left) .2, omega arith)
 
 write-last-requires : tie.Need-write-last-requires
 unfolding grouped
