@@ -7,10 +7,11 @@ use native.Mathlib.Nat.{not-suc-le-zero}
 use native.Mathlib.Omega.{arith}
 use lib.ListN.{length, getD, set, replicate, length-set, length-replicate}
 use lib.Seq.{ext-getD, getD-set-same, getD-set-other}
+use Rattle.total_order.proofs.Parts.{side}
 use Rattle.cards.specs.Card.{placeOf, listed, cardOf, listOf}
 use Rattle.cards.specs.Steps.{AtPlace, PlacedFrom, Carried}
 use Rattle.cards.proofs.Lists.{length-listed, getD-listed, length-put, getD-put}
-use Rattle.cards.proofs.EachPlace.{numberAt, side, place-number, place-fits, number-fits, apart}
+use Rattle.cards.proofs.EachPlace.{numberAt, place-number, place-fits, number-fits, apart}
 
 pub one-card : (l c d : List ℕ) → Carried l c (length l) → Carried l d (length l) → c ≡ d
 one-card l c d here there = ext-getD 0 c d (here .0 ∙ sym (there .0)) same
@@ -44,52 +45,43 @@ off-card c =
     let size : length (listed n from) ≡ n = length-listed n from in
     (sym size, λ i h. rw size (sym (getD-listed n from i (rw size at h))))
 
--- ---- loops that carry numbers over: none yet, then one more
+-- ---- loops that carry numbers over: none yet
 pub none-yet : (l c : List ℕ) → length c ≡ length l → Carried l c 0
 none-yet l c same = (same, λ i h. absurd (not-suc-le-zero h))
 
--- number k put at its place: it is there, and so is every other number that was
-module _ (l c : List ℕ) (k p v : ℕ) (same : length c ≡ length l) (h : k < length l) (e : p ≡ placeOf (length l) k) (w : v ≡ getD l k 0) where
-  put-there : AtPlace l (set c p v) k
-  put-there = rw (← e) (getD-set-same c p v 0 (rw (e, same) (place-fits (length l) k h)) ∙ w)
+-- one more: after a step at number k it is at its place, and so is every other number that was before
+abbrev pub Step : (ℕ → Type 0) → (ℕ → Type 0) → ℕ → Type 0
+Step before after k = after k × ((i : ℕ) → (i ≡ k → ⊥) → before i → after i)
 
-  others-stay : (i : ℕ) → (i ≡ k → ⊥) → AtPlace l c i → AtPlace l (set c p v) i
-  others-stay i n done = getD-set-other c p (placeOf (length l) i) v 0 (λ s. n (apart (length l) i k (s ∙ e))) ∙ done
+pub put-step : (l c : List ℕ) (k p v : ℕ) → length c ≡ length l → k < length l → p ≡ placeOf (length l) k → v ≡ getD l k 0 → Step (AtPlace l c) (AtPlace l (set c p v)) k
+put-step l c k p v same h e w =
+    let n = length l in (
+      rw (← e) (getD-set-same c p v 0 (rw (e, same) (place-fits n k h)) ∙ w),
+      λ i other done. getD-set-other c p (placeOf n i) v 0 (λ s. other (apart n i k (s ∙ e))) ∙ done,
+    )
 
-  one-more : (from m : ℕ) → m ≡ k + 1 → PlacedFrom l c from k → PlacedFrom l (set c p v) from m
-  one-more from m next done i a b = ⊎-elim (λ (q : i < k). others-stay i (λ z. omega arith) (done i a q)) last (side i k)
+pub read-step : (l c : List ℕ) (k v : ℕ) → k < length l → v ≡ getD c (placeOf (length l) k) 0 → Step (AtPlace l c) (AtPlace (set l k v) c) k
+read-step l c k v h w =
+    rw (length-set l k v) (sym w ∙ sym (getD-set-same l k v 0 h), λ i other done. done ∙ sym (getD-set-other l k i v 0 other))
+
+module _ {before after : ℕ → Type 0} where
+  further : (k from m : ℕ) → m ≡ k + 1 → Step before after k → ((i : ℕ) → from ≤ i → i < k → before i) → (i : ℕ) → from ≤ i → i < m → after i
+  further k from m next step done i a b = ⊎-elim (λ (q : i < k). step .1 i (λ z. omega arith) (done i a q)) last (side i k)
     where
-      last : k ≤ i → AtPlace l (set c p v) i
-      last q = let z : i ≡ k = omega arith in rw z put-there
+      last : k ≤ i → after i
+      last q = let z : i ≡ k = omega arith in rw z (step .0)
 
-  pub onto-card : (m : ℕ) → m ≡ k + 1 → Carried l c k → Carried l (set c p v) m
-  onto-card m next done = (length-set c p v ∙ done .0, λ i b. one-more 0 m next (λ i a b. done .1 i b) i (omega arith) b)
+  pub one-more : (k m : ℕ) → m ≡ k + 1 → Step before after k → ((i : ℕ) → i < k → before i) → (i : ℕ) → i < m → after i
+  one-more k m next step done i b = further k 0 m next step (λ i a b. done i b) i (omega arith) b
 
--- number k and, behind it, number m
-pub two-onto-card : (l c : List ℕ) (k m from p q v w : ℕ) → k < from → from ≤ m → m < length l → p ≡ placeOf (length l) k → q ≡ placeOf (length l) m → v ≡ getD l k 0 → w ≡ getD l m 0
-    → (k′ m′ : ℕ) → k′ ≡ k + 1 → m′ ≡ m + 1 → Carried l c k → PlacedFrom l c from m → Carried l (set (set c p v) q w) k′ × PlacedFrom l (set (set c p v) q w) from m′
-two-onto-card l c k m from p q v w a b h e e′ u u′ k′ m′ next next′ done behind =
-    let d = set c p v in
-    let first = onto-card l c k p v (done .0) (omega arith) e u k′ next done in
-    let still : PlacedFrom l d from m = λ i f t. others-stay l c k p v (done .0) (omega arith) e u i (λ z. omega arith) (behind i f t) in
-    let carried : Carried l (set d q w) k′ = (length-set d q w ∙ first .0, λ i t. others-stay l d m q w (first .0) h e′ u′ i (λ z. omega arith) (first .1 i t)) in
-    (carried, one-more l d m q w (first .0) h e′ u′ from m′ next′ still)
-
--- number k of the list, read from its place; and the next one too
-pub from-card : (l c : List ℕ) (k v : ℕ) → k < length l → v ≡ getD c (placeOf (length l) k) 0 → (m : ℕ) → m ≡ k + 1 → Carried l c k → Carried (set l k v) c m
-from-card l c k v h w m next done = rw (length-set l k v) (done .0, placed)
-  where
-    placed : (i : ℕ) → i < m → getD c (placeOf (length l) i) 0 ≡ getD (set l k v) i 0
-    placed i b = ⊎-elim (λ (q : i < k). done .1 i q ∙ sym (getD-set-other l k i v 0 (λ z. omega arith))) last (side i k)
-      where
-        last : k ≤ i → getD c (placeOf (length l) i) 0 ≡ getD (set l k v) i 0
-        last q = let z : i ≡ k = omega arith in rw z (sym w ∙ sym (getD-set-same l k v 0 h))
-
-pub two-from-card : (l c : List ℕ) (k k′ v v′ m : ℕ) → k′ < length l → k′ ≡ k + 1 → v ≡ getD c (placeOf (length l) k) 0 → v′ ≡ getD c (placeOf (length l) k′) 0 → m ≡ k + 2
-    → Carried l c k → Carried (set (set l k v) k′ v′) c m
-two-from-card l c k k′ v v′ m h next w w′ end done =
-    let size = length-set l k v in
-    from-card (set l k v) c k′ v′ (rw size h) (rw size w′) m (omega arith) (from-card l c k v (omega arith) w k′ next done)
+-- two more: number k, and number m of a run behind it
+module _ {before between after : ℕ → Type 0} where
+  pub two-more : (k m from k′ m′ : ℕ) → k < from → from ≤ m → k′ ≡ k + 1 → m′ ≡ m + 1 → Step before between k → Step between after m
+      → ((i : ℕ) → i < k → before i) → ((i : ℕ) → from ≤ i → i < m → before i) → ((i : ℕ) → i < k′ → after i) × ((i : ℕ) → from ≤ i → i < m′ → after i)
+  two-more k m from k′ m′ a b next next′ first second done behind = (
+    λ i t. second .1 i (λ z. omega arith) (one-more k k′ next first done i t),
+    further m from m′ next′ second (λ i f t. first .1 i (λ z. omega arith) (behind i f t)),
+  )
 
 -- a run behind those carried joins them
 pub joined : (l c : List ℕ) (k m : ℕ) → Carried l c k → PlacedFrom l c k m → Carried l c m

@@ -1,11 +1,12 @@
 -- Laws of places: every number of a list has a place of its own on the card, and every place of the card a number. Assumes nothing.
 use Prim.Native.Nat.{ℕ, _+_, _*_, _/_, _%_, _<_, _≤_}
-use mathlib.Core.Path.{_≡_, refl, sym, ap, _∙_}
-use mathlib.Core.Bool.{Bool, true, false, cond}
-use mathlib.Core.Logic.{_⊎_, inl, inr, ⊎-elim}
+use mathlib.Core.Path.{_≡_, sym, ap, _∙_}
+use mathlib.Core.Bool.{cond}
+use mathlib.Core.Logic.{⊎-elim}
 use native.Mathlib.Omega.{arith}
 use lib.Dec.{ltb}
-use borrow.Author.Tests.{lt-ltb, le-ltb, ltb-true, ltb-false}
+use borrow.Author.Tests.{lt-ltb, le-ltb}
+use Rattle.total_order.proofs.Parts.{side}
 use Rattle.point_moments.specs.Moments.{MOMENTS}
 use Rattle.cards.specs.Card.{GROUP, GROUPED, cardPlace, grouped, placeOf}
 
@@ -16,14 +17,6 @@ listPlace f r = MOMENTS * r + f
 -- the number that comes to place p
 unfoldable pub numberAt : ℕ → ℕ → ℕ
 numberAt n p = cond (ltb p (grouped n)) (p / GROUPED * GROUPED + listPlace (p / GROUP % MOMENTS) (p % GROUP)) p
-
--- inside the whole groups, or behind them
-pub side : (a b : ℕ) → (a < b) ⊎ (b ≤ a)
-side a b = go (ltb a b) refl
-  where
-    go : (t : Bool) → ltb a b ≡ t → (a < b) ⊎ (b ≤ a)
-    go true e = inl (ltb-true a b e)
-    go false e = inr (ltb-false a b e)
 
 place-grouped : (n i : ℕ) → i < grouped n → placeOf n i ≡ i / GROUPED * GROUPED + cardPlace (i % MOMENTS) (i / MOMENTS % GROUP)
 unfolding placeOf
@@ -61,11 +54,9 @@ module _ (n g f r : ℕ) (whole : g * GROUPED + GROUPED ≤ n) (h : f < MOMENTS)
   number-in-group : numberAt n (g * GROUPED + cardPlace f r) ≡ g * GROUPED + listPlace f r
   number-in-group = number-grouped n (g * GROUPED + cardPlace f r) (inside (cardPlace f r) (omega arith)) ∙ omega arith
 
--- number i of a whole group g
-pub place-in-table : (n g i : ℕ) → g * GROUPED + GROUPED ≤ n → i < GROUPED → placeOf n (g * GROUPED + i) ≡ g * GROUPED + cardPlace (i % MOMENTS) (i / MOMENTS)
-place-in-table n g i whole h =
-    let e : g * GROUPED + i ≡ g * GROUPED + listPlace (i % MOMENTS) (i / MOMENTS) = omega arith in
-    rw e (place-in-group n g (i % MOMENTS) (i / MOMENTS) whole (omega arith) (omega arith))
+-- the same of number i of the list
+pub place-of : (n g f r i : ℕ) → g * GROUPED + GROUPED ≤ n → f < MOMENTS → r < GROUP → i ≡ g * GROUPED + r * MOMENTS + f → g * GROUPED + cardPlace f r ≡ placeOf n i
+place-of n g f r i whole h k e = let z : i ≡ g * GROUPED + listPlace f r = omega arith in rw z (sym (place-in-group n g f r whole h k))
 
 -- any number, there and back
 number-place : (n i : ℕ) → numberAt n (placeOf n i) ≡ i

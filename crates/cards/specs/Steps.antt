@@ -1,14 +1,14 @@
 -- What the functions below the two calls are handed and leave; no exported contract cites it. Definitions only.
-use Prim.Native.Nat.{ℕ, _+_, _*_, _/_, _%_, _<_, _≤_}
+use Prim.Native.Nat.{ℕ, _+_, _*_, _<_, _≤_}
 use mathlib.Core.Path.{_≡_}
 use mathlib.Core.List.{List}
 use lib.ListN.{length, getD}
 use Rattle.point_moments.specs.Moments.{MOMENTS}
-use Rattle.cards.specs.Card.{GROUPED, cardPlace, placeOf}
+use Rattle.cards.specs.Card.{GROUP, GROUPED, cardPlace, placeOf}
 
--- a table of a group's places: entry i is that of number i % MOMENTS of record i / MOMENTS
+-- a table of a group's places, the numbers in the list's order: record after record
 abbrev pub Places : List ℕ → Type 0
-Places t = (i : ℕ) → i < GROUPED → getD t i 0 ≡ cardPlace (i % MOMENTS) (i / MOMENTS)
+Places t = (f r : ℕ) → f < MOMENTS → r < GROUP → getD t (MOMENTS * r + f) 0 ≡ cardPlace f r
 
 -- number i of a list is at its place on a card; the first k numbers are; those from a number on are
 abbrev pub AtPlace : List ℕ → List ℕ → ℕ → Type 0

@@ -1,8 +1,8 @@
-// The places of a group's numbers on the card, as a table: the numbers in the list's order, record after record.
+// A group's size, and the place on the card of each of its numbers, from a table.
 ghost use mathlib.Core.Path.{_≡_};
-ghost use Prim.Native.Nat.{_/_, _%_, _<_};
+ghost use Prim.Native.Nat.{_<_};
 ghost use Rattle.point_moments.specs.Moments.{MOMENTS};
-ghost use Rattle.cards.specs.Card.{GROUPED, cardPlace};
+ghost use Rattle.cards.specs.Card.{GROUP, cardPlace};
 ghost use Rattle.cards.specs.Steps.{Places};
 use point_moments::MOMENTS;
 
@@ -11,6 +11,7 @@ pub const GROUP: usize = 8;
 
 pub const GROUPED: usize = GROUP * MOMENTS;
 
+// Entry MOMENTS * r + f is the place of number f of record r.
 const PLACES: [u8; GROUPED] = [
     0,
     8,
@@ -125,10 +126,10 @@ pub fn table() -> [u8; GROUPED]
     PLACES
 }
 
-// The place of number i of a group.
-pub fn place(places: &[u8; GROUPED], i: usize) -> usize
-    requires { ⌜ Places (now places) × (i < GROUPED) ⌝ }
-    ensures { λ p. ⌜ p ≡ cardPlace (i % MOMENTS) (i / MOMENTS) ⌝ }
+// Where number f of record r of a group goes.
+pub fn place(places: &[u8; GROUPED], f: usize, r: usize) -> usize
+    requires { ⌜ Places (now places) × (f < MOMENTS) × (r < GROUP) ⌝ }
+    ensures { λ p. ⌜ p ≡ cardPlace f r ⌝ }
 {
-    places[i] as usize
+    places[MOMENTS * r + f] as usize
 }

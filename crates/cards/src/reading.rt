@@ -1,47 +1,51 @@
 // A list off its card, the other way round.
 ghost use mathlib.Core.Path.{_≡_};
-ghost use Prim.Native.Nat.{_+_, _*_, _≤_};
+ghost use Prim.Native.Nat.{_+_, _*_, _<_, _≤_};
 ghost use lib.ListN.{length};
 ghost use Rattle.point_moments.specs.Moments.{MOMENTS};
-ghost use Rattle.cards.specs.Card.{GROUPED, grouped, listOf};
+ghost use Rattle.cards.specs.Card.{GROUP, GROUPED, grouped, listOf};
 ghost use Rattle.cards.specs.Steps.{Places, Carried, Whole};
 use crate::places::GROUPED;
 use crate::places::place;
 use point_moments::MOMENTS;
 
-// Two records of group g, numbers `from` to `to`, where those before them have been read.
-// Two numbers a turn, both read before one is written, are faster than one where lists are long.
+// Records r and r + 1 of group g, where all numbers before them have been read. `end` is where record r ends: with
+// a constant in its place the compiler would unroll the loop before it knows r, and then would not inline it.
+// A number of both in each turn, as on writing.
 fn read_two(
     card: &[u64],
     moments: &mut [u64],
     places: &[u8; GROUPED],
     g: usize,
-    from: usize,
-    to: usize,
+    r: usize,
+    end: usize,
 )
-    requires { ⌜ Places (now places) × Whole (now card) g × (to ≡ from + 2 * MOMENTS) × (to ≤ GROUPED) × Carried (now moments) (now card) (g * GROUPED + from) ⌝ }
-    ensures { λ _. ⌜ Carried (now (moments .exit)) (now (card .entry)) (g * GROUPED + to) ⌝ }
+    requires { ⌜ Places (now places) × Whole (now card) g × (r + 1 < GROUP) × (end ≡ (r + 1) * MOMENTS) × Carried (now moments) (now card) (g * GROUPED + r * MOMENTS) ⌝ }
+    ensures { λ _. ⌜ Carried (now (moments .exit)) (now (card .entry)) (g * GROUPED + (r + 2) * MOMENTS) ⌝ }
 {
     let group = g * GROUPED;
-    let mut i = from;
-    while i < to {
-        let one = card[group + place(places, i)];
-        let other = card[group + place(places, i + 1)];
-        moments[group + i] = one;
-        moments[group + i + 1] = other;
-        i += 2;
+    let first = group + r * MOMENTS;
+    let second = first + MOMENTS;
+    let numbers = end - r * MOMENTS;
+    let mut f = 0;
+    while f < numbers {
+        let one = card[group + place(places, f, r)];
+        let other = card[group + place(places, f, r + 1)];
+        moments[first + f] = one;
+        moments[second + f] = other;
+        f += 1;
     }
 }
 
-// Group g. With ends that it knows the compiler unrolls the loops and works out the places.
+// Group g. With literals the compiler unrolls the loops and works out the places.
 fn read_group(card: &[u64], moments: &mut [u64], places: &[u8; GROUPED], g: usize)
     requires { ⌜ Places (now places) × Whole (now card) g × Carried (now moments) (now card) (g * GROUPED) ⌝ }
     ensures { λ _. ⌜ Carried (now (moments .exit)) (now (card .entry)) (g * GROUPED + GROUPED) ⌝ }
 {
-    read_two(card, moments, places, g, 0, 2 * MOMENTS);
-    read_two(card, moments, places, g, 2 * MOMENTS, 4 * MOMENTS);
-    read_two(card, moments, places, g, 4 * MOMENTS, 6 * MOMENTS);
-    read_two(card, moments, places, g, 6 * MOMENTS, GROUPED);
+    read_two(card, moments, places, g, 0, MOMENTS);
+    read_two(card, moments, places, g, 2, 3 * MOMENTS);
+    read_two(card, moments, places, g, 4, 5 * MOMENTS);
+    read_two(card, moments, places, g, 6, 7 * MOMENTS);
 }
 
 pub fn read_groups(card: &[u64], moments: &mut [u64], places: &[u8; GROUPED], groups: usize)

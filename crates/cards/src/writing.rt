@@ -1,47 +1,51 @@
 // A list onto its card: its whole groups, number by number to their places, and a last shorter group as it is.
 ghost use mathlib.Core.Path.{_≡_};
-ghost use Prim.Native.Nat.{_+_, _*_, _≤_};
+ghost use Prim.Native.Nat.{_+_, _*_, _<_, _≤_};
 ghost use lib.ListN.{length};
 ghost use Rattle.point_moments.specs.Moments.{MOMENTS};
-ghost use Rattle.cards.specs.Card.{GROUPED, grouped, cardOf};
+ghost use Rattle.cards.specs.Card.{GROUP, GROUPED, grouped, cardOf};
 ghost use Rattle.cards.specs.Steps.{Places, Carried, Whole};
 use crate::places::GROUPED;
 use crate::places::place;
 use point_moments::MOMENTS;
 
-// Two records of group g, numbers `from` to `to` and as many behind them, where those before them are at their places.
-// In each turn a number of both: they go side by side, which is faster than one record after the other.
+// Records r and r + 1 of group g, where all numbers before them are at their places. `end` is where record r ends: with
+// a constant in its place the compiler would unroll the loop before it knows r, and then would not inline it.
+// A number of both in each turn is faster than one record after the other: they go side by side.
 fn write_two(
     moments: &[u64],
     card: &mut [u64],
     places: &[u8; GROUPED],
     g: usize,
-    from: usize,
-    to: usize,
+    r: usize,
+    end: usize,
 )
-    requires { ⌜ Places (now places) × Whole (now moments) g × (to ≡ from + MOMENTS) × (to + MOMENTS ≤ GROUPED) × Carried (now moments) (now card) (g * GROUPED + from) ⌝ }
-    ensures { λ _. ⌜ Carried (now (moments .entry)) (now (card .exit)) (g * GROUPED + (to + MOMENTS)) ⌝ }
+    requires { ⌜ Places (now places) × Whole (now moments) g × (r + 1 < GROUP) × (end ≡ (r + 1) * MOMENTS) × Carried (now moments) (now card) (g * GROUPED + r * MOMENTS) ⌝ }
+    ensures { λ _. ⌜ Carried (now (moments .entry)) (now (card .exit)) (g * GROUPED + (r + 2) * MOMENTS) ⌝ }
 {
     let group = g * GROUPED;
-    let mut i = from;
-    while i < to {
-        let one = moments[group + i];
-        let other = moments[group + i + MOMENTS];
-        card[group + place(places, i)] = one;
-        card[group + place(places, i + MOMENTS)] = other;
-        i += 1;
+    let first = group + r * MOMENTS;
+    let second = first + MOMENTS;
+    let numbers = end - r * MOMENTS;
+    let mut f = 0;
+    while f < numbers {
+        let one = moments[first + f];
+        let other = moments[second + f];
+        card[group + place(places, f, r)] = one;
+        card[group + place(places, f, r + 1)] = other;
+        f += 1;
     }
 }
 
-// Group g. With ends that it knows the compiler unrolls the loops and works out the places.
+// Group g. With literals the compiler unrolls the loops and works out the places.
 fn write_group(moments: &[u64], card: &mut [u64], places: &[u8; GROUPED], g: usize)
     requires { ⌜ Places (now places) × Whole (now moments) g × Carried (now moments) (now card) (g * GROUPED) ⌝ }
     ensures { λ _. ⌜ Carried (now (moments .entry)) (now (card .exit)) (g * GROUPED + GROUPED) ⌝ }
 {
     write_two(moments, card, places, g, 0, MOMENTS);
-    write_two(moments, card, places, g, 2 * MOMENTS, 3 * MOMENTS);
-    write_two(moments, card, places, g, 4 * MOMENTS, 5 * MOMENTS);
-    write_two(moments, card, places, g, 6 * MOMENTS, 7 * MOMENTS);
+    write_two(moments, card, places, g, 2, 3 * MOMENTS);
+    write_two(moments, card, places, g, 4, 5 * MOMENTS);
+    write_two(moments, card, places, g, 6, 7 * MOMENTS);
 }
 
 pub fn write_groups(moments: &[u64], card: &mut [u64], places: &[u8; GROUPED], groups: usize)

@@ -1,13 +1,13 @@
 -- `cards::reading::read_last` meets its contract: after the last turn every number is at its place. Assumes nothing.
 use Prim.Native.Nat.{ℕ, _+_, _-_, _≤_}
-use mathlib.Core.Path.{_≡_, refl, sym, ap}
+use mathlib.Core.Path.{_≡_, refl, sym, ap, _∙_}
 use native.Mathlib.Omega.{arith}
 use borrow.Author.Needs.{needs}
-use lib.ListN.{length, getD}
+use lib.ListN.{length, getD, length-set}
 use Rattle.cards.specs.Card.{grouped, placeOf, listOf}
 use Rattle.cards.specs.Steps.{Carried}
 use Rattle.cards.proofs.EachPlace.{place-last, within}
-use Rattle.cards.proofs.Carried.{from-card, one-list, off-card}
+use Rattle.cards.proofs.Carried.{read-step, one-more, one-list, off-card}
 use Rattle.cards.proofs.reading.read_last.Statement.{statement}
 use Rattle.cards.proofs.reading.read_last.Tie as tie
 
@@ -25,7 +25,8 @@ loop-again c =
     let at = c .before .before .loop in
     let card = c .before .before .before .args .card .now in
     let place : placeOf (length (at .moments)) (at .k) ≡ at .k = place-last (length (at .moments)) (at .k) (rw (← at .inv .2 .0) (at .inv .0)) in
-    (search needs, search needs, from-card (at .moments) card (at .k) _ (search needs) (ap (λ (p : ℕ). getD card p 0) (sym place)) (at .k + 1) refl (at .inv .2))
+    let step = read-step (at .moments) card (at .k) _ (search needs) (ap (λ (p : ℕ). getD card p 0) (sym place)) in
+    (search needs, search needs, (at .inv .2 .0 ∙ sym (length-set (at .moments) _ _), one-more (at .k) (at .k + 1) refl step (at .inv .2 .1)))
 
 returns : tie.Need-returns Inv-loop μ-loop
 returns c =

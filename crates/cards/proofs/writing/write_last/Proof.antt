@@ -1,13 +1,13 @@
 -- `cards::writing::write_last` meets its contract: after the last turn every number is at its place. Assumes nothing.
 use Prim.Native.Nat.{_+_, _-_, _≤_}
-use mathlib.Core.Path.{_≡_, refl, sym}
+use mathlib.Core.Path.{_≡_, refl, sym, _∙_}
 use native.Mathlib.Omega.{arith}
 use borrow.Author.Needs.{needs}
-use lib.ListN.{length}
+use lib.ListN.{length, length-set}
 use Rattle.cards.specs.Card.{grouped, cardOf}
 use Rattle.cards.specs.Steps.{Carried}
 use Rattle.cards.proofs.EachPlace.{place-last, within}
-use Rattle.cards.proofs.Carried.{onto-card, one-card, on-card}
+use Rattle.cards.proofs.Carried.{put-step, one-more, one-card, on-card}
 use Rattle.cards.proofs.writing.write_last.Statement.{statement}
 use Rattle.cards.proofs.writing.write_last.Tie as tie
 
@@ -25,7 +25,8 @@ loop-again c =
     let at = c .before .before .loop in
     let l = c .before .before .before .args .moments .now in
     let place = sym (place-last (length l) (at .k) (at .inv .0)) in
-    (search needs, search needs, onto-card l (at .card) (at .k) _ _ (at .inv .2 .0) (search needs) place refl (at .k + 1) refl (at .inv .2))
+    let step = put-step l (at .card) (at .k) _ _ (at .inv .2 .0) (search needs) place refl in
+    (search needs, search needs, (length-set (at .card) _ _ ∙ at .inv .2 .0, one-more (at .k) (at .k + 1) refl step (at .inv .2 .1)))
 
 returns : tie.Need-returns Inv-loop μ-loop
 returns c =
