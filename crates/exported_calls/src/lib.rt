@@ -12,6 +12,7 @@ use maghnelt::maghnelt_matches_accumulate_transformed;
 use maghnelt::maghnelt_transform;
 ghost use mathlib.Core.List.{[], _∷_};
 ghost use lib.ListN.{length};
+ghost use Rattle.cards.specs.Calls.{Writes, Reads};
 ghost use Rattle.block_transforms.specs.Transform.{without};
 ghost use Rattle.transform_maps.specs.Multiply.{Multiplied};
 ghost use Rattle.call_lists.specs.Accumulated.{Accumulated};
@@ -209,7 +210,7 @@ pub struct Turns {
 
 // A list written to a card, and read again.
 pub fn written_and_read(moments: &[u64], card: &mut [u64], again: &mut [u64]) -> Turns
-    ensures { λ r. ⌜ Back (now (moments .entry)) (now (card .entry)) (now (again .entry)) (r .written) (r .read) (now (again .exit)) ⌝ }
+    ensures { λ r. ⌜ Writes (now (moments .entry)) (now (card .entry)) (r .written) (now (card .exit)) × Reads (now (card .exit)) (now (again .entry)) (r .read) (now (again .exit)) × Back (now (moments .entry)) (now (card .entry)) (now (again .entry)) (r .written) (r .read) (now (again .exit)) ⌝ }
 {
     let written = maghnelt_card_write(moments, card);
     let read = maghnelt_card_read(card, again);
@@ -218,7 +219,7 @@ pub fn written_and_read(moments: &[u64], card: &mut [u64], again: &mut [u64]) ->
 
 // A card read to a list, and written again.
 pub fn read_and_written(card: &[u64], moments: &mut [u64], again: &mut [u64]) -> Turns
-    ensures { λ r. ⌜ Back (now (card .entry)) (now (moments .entry)) (now (again .entry)) (r .read) (r .written) (now (again .exit)) ⌝ }
+    ensures { λ r. ⌜ Reads (now (card .entry)) (now (moments .entry)) (r .read) (now (moments .exit)) × Writes (now (moments .exit)) (now (again .entry)) (r .written) (now (again .exit)) × Back (now (card .entry)) (now (moments .entry)) (now (again .entry)) (r .read) (r .written) (now (again .exit)) ⌝ }
 {
     let read = maghnelt_card_read(card, moments);
     let written = maghnelt_card_write(moments, again);

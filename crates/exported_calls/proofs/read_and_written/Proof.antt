@@ -5,10 +5,12 @@ use Rattle.exported_calls.proofs.read_and_written.Statement.{statement}
 use Rattle.exported_calls.proofs.read_and_written.Tie as tie
 
 returns : tie.Need-returns
-returns c n records same same′ =
+returns c =
     let written = c .before .before in
     let read = written .before .before .before .before .before in
-    read-then-write n _ _ _ _ _ _ _ records same same′ (read .maghnelt-card-read .ensures) (written .maghnelt-card-write .ensures)
+    let d = read .maghnelt-card-read .ensures in
+    let w = written .maghnelt-card-write .ensures in
+    (d, w, λ n records same same′. read-then-write n _ _ _ _ _ _ _ records same same′ d w)
 
 pub read-and-written-spec : {M : Type 1} → statement M
 read-and-written-spec =

@@ -5,10 +5,12 @@ use Rattle.exported_calls.proofs.written_and_read.Statement.{statement}
 use Rattle.exported_calls.proofs.written_and_read.Tie as tie
 
 returns : tie.Need-returns
-returns c n records same same′ =
+returns c =
     let read = c .before .before in
     let written = read .before .before .before .before .before in
-    write-then-read n _ _ _ _ _ _ _ records same same′ (written .maghnelt-card-write .ensures) (read .maghnelt-card-read .ensures)
+    let w = written .maghnelt-card-write .ensures in
+    let d = read .maghnelt-card-read .ensures in
+    (w, d, λ n records same same′. write-then-read n _ _ _ _ _ _ _ records same same′ w d)
 
 pub written-and-read-spec : {M : Type 1} → statement M
 written-and-read-spec =
