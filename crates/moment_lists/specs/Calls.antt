@@ -1,6 +1,6 @@
 -- The calls of a host on moments as lists: why each is refused, and what it leaves where it is not. Definitions only.
 use Prim.Native.Nat.{ℕ, _/_}
-use mathlib.Core.List.{List, [], _∷_}
+use mathlib.Core.List.{List, [], _∷_, _++_}
 use lib.ListN.{length}
 use lib.Ieee.{Float}
 use Rattle.refusals.specs.Refusal.{_when_, firstOf, wrongLength, Answered}
@@ -8,6 +8,7 @@ use Rattle.lists.specs.Part.{part}
 use Rattle.point_moments.specs.Moments.{MOMENTS, momentsOf, momentsList, pointReasons, ofPoints, withPoint, merged, transformed}
 use Rattle.point_moments.specs.Scatter.{meanAndScatter}
 use Rattle.point_moments.specs.Plane.{planeOf}
+use Rattle.counted_moments.specs.Counted.{pushReasons, mergeReasons, pushesReasons}
 use Rattle.decomposition.specs.Axes.{DECOMPOSITION}
 use Rattle.point_moments.specs.declared.plane.MomentsPlane.{MomentsPlane}
 use Rattle.point_moments.specs.declared.plane.MomentsPlane.the-variants.{Found, NoPlane}
@@ -16,9 +17,10 @@ use Rattle.point_moments.specs.declared.scatter.MeanAndScatter.the-variants as 
 
 -- Of each call: the number of the reason to refuse it, what it gives, and what a call with the answer r leaves.
 
--- from_points: the points, three numbers each, and the output
+-- from_points: the points, three numbers each, and the output; a push that is refused is handed on
 unfoldable pub gatherRefusal : List Float → List Float → ℕ
-gatherRefusal p m = firstOf (3 when wrongLength ((length m, MOMENTS) ∷ []) ∷ pointReasons p)
+gatherRefusal p m =
+    firstOf (3 when wrongLength ((length m, MOMENTS) ∷ []) ∷ pointReasons p ++ pushesReasons (length p / 3) p)
 
 unfoldable pub gathered : List Float → List Float
 gathered p = momentsList (ofPoints (length p / 3) p)
@@ -28,7 +30,8 @@ FromPoints p m r m′ = Answered (gatherRefusal p m) r m m′ (gathered p)
 
 -- push: the moments, and a point of three numbers
 unfoldable pub pushRefusal : List Float → List Float → ℕ
-pushRefusal m p = firstOf (3 when wrongLength ((length m, MOMENTS) ∷ (length p, 3) ∷ []) ∷ [])
+pushRefusal m p =
+    firstOf (3 when wrongLength ((length m, MOMENTS) ∷ (length p, 3) ∷ []) ∷ pushReasons (momentsOf m) (part 3 p 0))
 
 unfoldable pub pushed : List Float → List Float → List Float
 pushed m p = momentsList (withPoint (momentsOf m) (part 3 p 0))
@@ -38,7 +41,8 @@ Pushes m p r m′ = Answered (pushRefusal m p) r m m′ (pushed m p)
 
 -- merge: the moments, and those of another set
 unfoldable pub mergeRefusal : List Float → List Float → ℕ
-mergeRefusal m n = firstOf (3 when wrongLength ((length m, MOMENTS) ∷ (length n, MOMENTS) ∷ []) ∷ [])
+mergeRefusal m n =
+    firstOf (3 when wrongLength ((length m, MOMENTS) ∷ (length n, MOMENTS) ∷ []) ∷ mergeReasons (momentsOf m) (momentsOf n))
 
 unfoldable pub joined : List Float → List Float → List Float
 joined m n = momentsList (merged (momentsOf m) (momentsOf n))

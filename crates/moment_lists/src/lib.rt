@@ -32,8 +32,13 @@ pub fn push(moments: &mut [f64], point: &[f64]) -> u32
     if point.len() != 3 {
         return 3;
     }
-    let m = PointMoments::from_list(moments).with_point(lists::three(point, 0));
-    m.write(moments);
+    let m = PointMoments::from_list(moments);
+    let p = lists::three(point, 0);
+    let refusal = counted_moments::push_refusal(m, p);
+    if refusal != 0 {
+        return refusal;
+    }
+    m.with_point(p).write(moments);
     0
 }
 
@@ -47,8 +52,13 @@ pub fn merge(moments: &mut [f64], other: &[f64]) -> u32
     if other.len() != MOMENTS {
         return 3;
     }
-    let m = PointMoments::from_list(moments).merged(PointMoments::from_list(other));
-    m.write(moments);
+    let m = PointMoments::from_list(moments);
+    let n = PointMoments::from_list(other);
+    let refusal = counted_moments::merge_refusal(m, n);
+    if refusal != 0 {
+        return refusal;
+    }
+    m.merged(n).write(moments);
     0
 }
 

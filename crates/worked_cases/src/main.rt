@@ -1,7 +1,9 @@
-// Runs document 01's worked cases and a case of the frame factor in whole numbers through the proved functions and writes what they give; the file `stdout` holds
-// what was worked out on paper.
+// Runs document 01's worked cases, a case of the frame factor in whole numbers and a full set through the proved functions and writes what they give; the file
+// `stdout` holds what was worked out on paper.
 ghost use mathlib.Core.Path.{_≡_};
+ghost use Rattle.refusals.specs.Refusal.{kept};
 ghost use Rattle.point_moments.specs.Moments.{withPoint, merged};
+ghost use Rattle.counted_moments.specs.Counted.{pushRefusal, mergeRefusal};
 use libc::STDOUT_FILENO;
 use point_moments::PointMoments;
 use point_moments::plane::MomentsPlane;
@@ -70,9 +72,9 @@ fn mean(label: &[u8], m: PointMoments) {
     }
 }
 
-// A local record that is lent, and comes back with one point more, or with another set.
+// A local record that is lent, and comes back with one point more, or with another set; as it was, where that is refused.
 fn pushed(m: PointMoments, p: [f64; 3]) -> PointMoments
-    ensures { λ r. ⌜ r ≡ withPoint m p ⌝ }
+    ensures { λ r. ⌜ r ≡ kept (pushRefusal m p) m (withPoint m p) ⌝ }
 {
     let mut v = m;
     lent_moments::push(&mut v, p);
@@ -80,7 +82,7 @@ fn pushed(m: PointMoments, p: [f64; 3]) -> PointMoments
 }
 
 fn merged(m: PointMoments, other: PointMoments) -> PointMoments
-    ensures { λ r. ⌜ r ≡ merged m other ⌝ }
+    ensures { λ r. ⌜ r ≡ kept (mergeRefusal m other) m (merged m other) ⌝ }
 {
     let mut v = m;
     lent_moments::merge(&mut v, other);
@@ -107,6 +109,32 @@ fn halves() -> PointMoments {
         [2.0, 2.0, 0.0],
     );
     merged(near, far)
+}
+
+// So many points at the origin that no more are counted.
+fn full() -> PointMoments {
+    let sum = [0.0; 3];
+    let outer = [0.0; 9];
+    PointMoments {
+        count: 9007199254740992.0,
+        sum,
+        outer,
+    }
+}
+
+// Why a push and a merge into that set are refused, and the set after each.
+fn refused(p: [f64; 3]) {
+    let one = pushed(PointMoments::empty(), p);
+    io::print_decimal(
+        STDOUT_FILENO,
+        counted_moments::push_refusal(full(), p) as u64,
+    );
+    moments(b" pushed", pushed(full(), p));
+    io::print_decimal(
+        STDOUT_FILENO,
+        counted_moments::merge_refusal(full(), one) as u64,
+    );
+    moments(b" merged", merged(full(), one));
 }
 
 // Eigenvalues 0, 1e-12 and 200, and the unit axes, by their patterns.
@@ -302,4 +330,5 @@ fn main() {
     root(b"k ", 0x4000_0000_0000_0000);
     accumulate();
     linearize();
+    refused(point);
 }

@@ -8,11 +8,15 @@ use denote.RattleType.{RattleType}
 use denote.Builtin.{f64}
 use denote.Floats.{float-vals, float-tells, float-makes, float-lawful}
 use denote.Array.{Array, arrayVal, array-tells, array-makes, array-lawful}
-use Rattle.lent_moments.proofs.Lent.{Callee, meets}
+use Rattle.lent_moments.proofs.Lent.{Answers, Callee, meets}
 use contract.Running.{givenOf, tables, tablesOf}
 use denote.Triple.Spec.{tripleOf}
 use denote.Triple.Table.{entered, cited}
 use Rattle.point_moments.specs.Moments.{withPoint}
+use Rattle.counted_moments.specs.Counted.{pushRefusal}
+use Rattle.counted_moments.proofs.push_refusal.Symbol as i-def
+use Rattle.counted_moments.proofs.push_refusal.Symbol.{name as #i}
+use Rattle.counted_moments.proofs.push_refusal.Met as i-thm
 use Rattle.point_moments.proofs.PointMoments.with_point.Symbol as g-def
 use Rattle.point_moments.proofs.PointMoments.with_point.Symbol.{name as #g}
 use Rattle.point_moments.proofs.PointMoments.with_point.Met as g-thm
@@ -34,5 +38,6 @@ push-spec 𝓤 H 𝓜 𝓖 𝓡 =
     let W = givenOf 𝓤 H 𝓜 𝓖 in
     let 𝓣 = tables 𝓤 H 𝓜 𝓡 code.env in
     entered 𝓤 H (tripleOf 𝓤 H A f.signature (f.spec 𝓤 H A (𝓜 .mem) (𝓡 .run))) (𝓣 .C) (𝓣 .Λ) #f code.function (code.unfolded 𝓤 H 𝓜 𝓡)
-    (meets Point (tyArray (tyFloat binary64) 3) point-val withPoint 𝓤 H A W (array-tells f64 (float-vals binary64) (float-tells binary64) 3) (λ x k. array-lawful 𝓤 H A W f64 (float-lawful 𝓤 H A W binary64) 3 .typed x _ k .0) (array-makes 𝓤 H A W f64 (float-makes 𝓤 H A W binary64) 3) (λ x. tt) (λ κs x l. refl) #g (tablesOf 𝓤 H 𝓜 𝓣) (f.clauses 𝓤 H A (𝓜 .mem) (𝓡 .run)) refl
-    (cited 𝓤 H (Callee Point (tyArray (tyFloat binary64) 3) point-val withPoint 𝓤 H A) 𝓜 𝓡 code.env #g g-def.routine code.calls-point-moments·PointMoments·with-point (g-thm.met 𝓤 H 𝓜 𝓖 𝓡)))
+    (meets Point (tyArray (tyFloat binary64) 3) point-val withPoint pushRefusal 𝓤 H A W (array-tells f64 (float-vals binary64) (float-tells binary64) 3) (λ x k. array-lawful 𝓤 H A W f64 (float-lawful 𝓤 H A W binary64) 3 .typed x _ k .0) (array-makes 𝓤 H A W f64 (float-makes 𝓤 H A W binary64) 3) (λ x. tt) (λ κs x l. refl) #i #g (tablesOf 𝓤 H 𝓜 𝓣) (f.clauses 𝓤 H A (𝓜 .mem) (𝓡 .run)) refl
+    (cited 𝓤 H (Answers Point (tyArray (tyFloat binary64) 3) point-val withPoint pushRefusal 𝓤 H A) 𝓜 𝓡 code.env #i i-def.routine code.calls-counted-moments·push-refusal (i-thm.met 𝓤 H 𝓜 𝓖 𝓡))
+    (cited 𝓤 H (Callee Point (tyArray (tyFloat binary64) 3) point-val withPoint pushRefusal 𝓤 H A) 𝓜 𝓡 code.env #g g-def.routine code.calls-point-moments·PointMoments·with-point (g-thm.met 𝓤 H 𝓜 𝓖 𝓡)))

@@ -1,7 +1,9 @@
--- `moment_lists::merge` meets its contract: the two records merged, written back. Assumes nothing.
+-- `moment_lists::merge` meets its contract: the two records merged, written back, unless that is refused. Assumes nothing.
+use mathlib.Core.Path.{_≡_, sym, _∙_}
+use native.Mathlib.Omega.{arith}
 use borrow.Author.Needs.{needs}
 use borrow.Author.Tests.{eq-eqb, ne-eqb}
-use Rattle.refusals.specs.Refusal.{refused, accepted}
+use Rattle.refusals.specs.Refusal.{refused, refused-by, accepted}
 use Rattle.moment_lists.specs.Calls.{mergeRefusal, joined}
 use Rattle.moment_lists.proofs.merge.Statement.{statement}
 use Rattle.moment_lists.proofs.merge.Tie as tie
@@ -15,12 +17,24 @@ unfolding mergeRefusal
 returns-2 c = refused (rw (eq-eqb _ _ (c .before .if1 .left), ne-eqb _ _ (c .if2 .taken)))
 
 returns-3 : tie.Need-returns-3
-unfolding mergeRefusal joined
+unfolding mergeRefusal
 returns-3 c =
+    let asked = c .before in
+    let read = asked .before .before in
+    let tested = read .before .before in
+    let is = rw (asked .before .from-list2 .ensures, read .from-list .ensures) at (asked .merge-refusal .ensures) in
+    refused-by (rw (eq-eqb _ _ (tested .before .if1 .left), eq-eqb _ _ (tested .if2 .left)) (sym is)) (λ e. omega arith)
+
+returns-4 : tie.Need-returns-4
+unfolding mergeRefusal joined
+returns-4 c =
     let made = c .before .before .before .before in
-    let tested = made .before .before .before .before in
-    accepted (rw (eq-eqb _ _ (tested .before .if1 .left), eq-eqb _ _ (tested .if2 .left)))
-    (rw (c .before .before .write .ensures, made .merged .ensures, made .before .from-list2 .ensures, made .before .before .from-list .ensures))
+    let asked = made .before .before in
+    let read = asked .before .before in
+    let tested = read .before .before in
+    let is = rw (asked .before .from-list2 .ensures, read .from-list .ensures) at (asked .merge-refusal .ensures) in
+    accepted (rw (eq-eqb _ _ (tested .before .if1 .left), eq-eqb _ _ (tested .if2 .left)) (sym is ∙ made .before .if3 .left))
+    (rw (c .before .before .write .ensures, made .merged .ensures, asked .before .from-list2 .ensures, read .from-list .ensures))
 
 pub merge-spec : {M : Type 1} → statement M
 merge-spec =
@@ -31,6 +45,9 @@ merge-spec =
     (λ c κs. search needs)
     (λ c κs. search needs)
     (λ c κs. tt)
+    (λ c. search needs)
+    returns-3
+    (λ c κs. tt)
     (λ c κs. search needs)
     (λ c. search needs)
-    returns-3)
+    returns-4)

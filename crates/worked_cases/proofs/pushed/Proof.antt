@@ -12,6 +12,7 @@ use denote.Array.{Array, arrayVal, array-tells, array-makes, array-lawful}
 use denote.Triple.Spec.{tripleOf}
 use denote.Triple.Table.{entered, cited}
 use Rattle.point_moments.specs.Moments.{withPoint}
+use Rattle.counted_moments.specs.Counted.{pushRefusal}
 use Rattle.lent_moments.proofs.push.Symbol as g-def
 use Rattle.lent_moments.proofs.push.Symbol.{name as #g}
 use Rattle.lent_moments.proofs.push.Met as g-thm
@@ -34,5 +35,5 @@ pushed-spec 𝓤 H 𝓜 𝓖 𝓡 =
     let W = givenOf 𝓤 H 𝓜 𝓖 in
     let 𝓣 = tables 𝓤 H 𝓜 𝓡 code.env in
     entered 𝓤 H (tripleOf 𝓤 H A f.signature (f.spec 𝓤 H A (𝓜 .mem) (𝓡 .run))) (𝓣 .C) (𝓣 .Λ) #f code.function (code.unfolded 𝓤 H 𝓜 𝓡)
-    (meets Point (tyArray (tyFloat binary64) 3) point-val withPoint 𝓤 H A W (array-tells f64 (float-vals binary64) (float-tells binary64) 3) (λ x k. array-lawful 𝓤 H A W f64 (float-lawful 𝓤 H A W binary64) 3 .typed x _ k .0) (array-makes 𝓤 H A W f64 (float-makes 𝓤 H A W binary64) 3) (λ x. tt) (λ κs x l. refl) #g (tablesOf 𝓤 H 𝓜 𝓣)
-    (cited 𝓤 H (Lent Point (tyArray (tyFloat binary64) 3) point-val withPoint 𝓤 H A) 𝓜 𝓡 code.env #g g-def.routine code.calls-lent-moments·push (g-thm.met 𝓤 H 𝓜 𝓖 𝓡)))
+    (meets Point (tyArray (tyFloat binary64) 3) point-val withPoint pushRefusal 𝓤 H A W (array-tells f64 (float-vals binary64) (float-tells binary64) 3) (λ x k. array-lawful 𝓤 H A W f64 (float-lawful 𝓤 H A W binary64) 3 .typed x _ k .0) (array-makes 𝓤 H A W f64 (float-makes 𝓤 H A W binary64) 3) (λ x. tt) (λ κs x l. refl) #g (tablesOf 𝓤 H 𝓜 𝓣)
+    (cited 𝓤 H (Lent Point (tyArray (tyFloat binary64) 3) point-val withPoint pushRefusal 𝓤 H A) 𝓜 𝓡 code.env #g g-def.routine code.calls-lent-moments·push (g-thm.met 𝓤 H 𝓜 𝓖 𝓡)))
