@@ -53,6 +53,7 @@ extern "C" {
  * 13  the fixed set's count is below 0 (in a strict build only)
  * 14  a transform has more than 9 columns or not dof rows, or a further one not as many columns as the one it multiplies has
  *     rows
+ * 15  the count is at or above MAGHNELT_MAX_COUNT (in a push), or the exact sum of the two counts is above it (in a merge)
  */
 
 /*
@@ -78,6 +79,12 @@ extern "C" {
  */
 #define MAGHNELT_GROUP 8
 
+/*
+ * The most points that a set counts: 2^53. A double holds every whole number up to it, but not the next, so that one point
+ * more would change no count.
+ */
+#define MAGHNELT_MAX_COUNT 9007199254740992.0
+
 /* ---- leaves ---- */
 
 /*
@@ -92,25 +99,32 @@ double maghnelt_sqrt(double x);
  */
 int64_t maghnelt_total_order_key(uint64_t bits);
 
-/* ---- moments: MAGHNELT_MOMENTS numbers a record; thirteen zeros are the empty set. Each call can refuse by 3. ---- */
+/* ---- moments: MAGHNELT_MOMENTS numbers a record; thirteen zeros are the empty set ---- */
 
-/* The moments of a list of points, 3 numbers each, at most MAGHNELT_MAX_POINTS. What `moments` held before does not count. */
+/*
+ * The moments of a list of points, 3 numbers each, at most MAGHNELT_MAX_POINTS. What `moments` held before does not count.
+ * Refused by 3.
+ */
 uint32_t maghnelt_moments_from_points(const double *points, size_t points_length, double *moments,
                                       size_t moments_length);
 
-/* One point more. */
+/* One point more. Refused by 3, then by 15 if the count is at or above MAGHNELT_MAX_COUNT (+infinity too; a NaN is not). */
 uint32_t maghnelt_moments_push(double *moments, size_t moments_length, const double *point, size_t point_length);
 
-/* The points of another set too. */
+/*
+ * The points of another set too. Refused by 3, then by 15 if the exact sum of the two counts is above MAGHNELT_MAX_COUNT, also
+ * where the rounded sum is not. An infinite count is above or below every number by its sign; two opposite infinities are not
+ * refused, and no NaN is.
+ */
 uint32_t maghnelt_moments_merge(double *moments, size_t moments_length, const double *other, size_t other_length);
 
-/* The moments of the points carried by p -> A p + b; a is 3 by 3 by columns, b has 3 numbers. */
+/* The moments of the points carried by p -> A p + b; a is 3 by 3 by columns, b has 3 numbers. Refused by 3. */
 uint32_t maghnelt_moments_transformed(const double *moments, size_t moments_length, const double *a, size_t a_length,
                                       const double *b, size_t b_length, double *out, size_t out_length);
 
 /*
  * The mean (3) and the scatter about it (9, by columns): *found is 1, and out, of 12 numbers, holds them. None for a
- * count at or below 0: *found is 0, and out is as it was.
+ * count at or below 0: *found is 0, and out is as it was. Refused by 3.
  */
 uint32_t maghnelt_moments_mean_and_scatter(const double *moments, size_t moments_length, double *out,
                                            size_t out_length, uint32_t *found);
@@ -119,7 +133,7 @@ uint32_t maghnelt_moments_mean_and_scatter(const double *moments, size_t moments
  * The plane of least scatter, by the decomposition of the scatter that the host hands in (MAGHNELT_DECOMPOSITION
  * numbers, in any order of the eigenvalues): *found is 1, and out, of 7 numbers, holds the normal, the offset and the
  * eigenvalues, rising in IEEE 754's total order. None for a count below 3 or where the two least eigenvalues are less
- * than 1e-14 apart: *found is 0, and out is as it was.
+ * than 1e-14 apart: *found is 0, and out is as it was. Refused by 3.
  */
 uint32_t maghnelt_moments_plane(const double *moments, size_t moments_length, const double *decomposition,
                                 size_t decomposition_length, double *out, size_t out_length, uint32_t *found);

@@ -80,8 +80,8 @@ pub use normal_equations::NormalEquations;
 pub use plane::{point_to_plane_sigma, Plane};
 pub use refusal::Refusal;
 pub use sizes::{
-    ACTION, CENTRED, DECOMPOSITION, GROUP, MATCH, MAX_DOF, MAX_FRAMES, MAX_MATCHES, MAX_ORDER,
-    MAX_POINTS, MAX_RECORDS, MAX_WORDS, MOMENTS, PLANE, TRANSFORM,
+    ACTION, CENTRED, DECOMPOSITION, GROUP, MATCH, MAX_COUNT, MAX_DOF, MAX_FRAMES, MAX_MATCHES,
+    MAX_ORDER, MAX_POINTS, MAX_RECORDS, MAX_WORDS, MOMENTS, PLANE, TRANSFORM,
 };
 pub use square_root::sqrt;
 pub use total_order::total_order_key;

@@ -118,8 +118,8 @@ impl Moments {
     ///
     /// # Errors
     ///
-    /// A push may be refused, and the moments are then as they were; but no reason of today applies to
-    /// arguments of these types.
+    /// [`Refusal::Saturated`] for a count at or above [`MAX_COUNT`](crate::MAX_COUNT), +infinity too, and the moments are as
+    /// they were. A NaN count is not refused.
     ///
     /// # Examples
     ///
@@ -135,6 +135,30 @@ impl Moments {
     /// # Ok(())
     /// # }
     /// ```
+    ///
+    /// A set that is full is kept as it is, and the points that follow go into a new one:
+    ///
+    /// ```
+    /// use maghnelt::{Moments, Refusal, MAX_COUNT};
+    ///
+    /// # fn main() -> Result<(), Refusal> {
+    /// // One point, doubled 53 times.
+    /// let mut moments = Moments::from_points(&[[1.0, 2.0, 3.0]])?;
+    /// for _ in 0..53 {
+    ///     let same = moments;
+    ///     moments.merge(&same)?;
+    /// }
+    /// assert_eq!(moments.count(), MAX_COUNT);
+    ///
+    /// let full = moments;
+    /// assert_eq!(moments.push(&[1.0, 0.0, 0.0]), Err(Refusal::Saturated));
+    /// assert_eq!(moments, full);
+    ///
+    /// let mut next = Moments::EMPTY;
+    /// next.push(&[1.0, 0.0, 0.0])?;
+    /// # Ok(())
+    /// # }
+    /// ```
     #[inline]
     pub fn push(&mut self, point: &[f64; 3]) -> Result<(), Refusal> {
         slices::moments_push(&mut self.0, point)
@@ -144,8 +168,9 @@ impl Moments {
     ///
     /// # Errors
     ///
-    /// A merge may be refused, and the moments are then as they were; but no reason of today applies to
-    /// arguments of these types.
+    /// [`Refusal::Saturated`] if the exact sum of the two counts is above [`MAX_COUNT`](crate::MAX_COUNT), also where the
+    /// rounded sum is not, and the moments are as they were. An infinite count is above or below every number by its sign;
+    /// two opposite infinities are not refused, and no NaN is.
     ///
     /// # Examples
     ///
@@ -156,6 +181,28 @@ impl Moments {
     /// let mut moments = Moments::from_points(&[[1.0, 2.0, 3.0]])?;
     /// moments.merge(&Moments::from_points(&[[1.0, 0.0, 0.0]])?)?;
     /// assert_eq!(moments, Moments::from_points(&[[1.0, 2.0, 3.0], [1.0, 0.0, 0.0]])?);
+    /// # Ok(())
+    /// # }
+    /// ```
+    ///
+    /// A set takes as many points as it can count, and no more:
+    ///
+    /// ```
+    /// use maghnelt::{Moments, Refusal, MAX_COUNT, MOMENTS};
+    ///
+    /// # fn main() -> Result<(), Refusal> {
+    /// // So many points at the origin.
+    /// let mut record = [0.0; MOMENTS];
+    /// record[0] = MAX_COUNT - 2.0;
+    /// let mut moments = Moments::from(record);
+    ///
+    /// let two = Moments::from_points(&[[1.0, 2.0, 3.0], [1.0, 0.0, 0.0]])?;
+    /// moments.merge(&two)?;
+    /// assert_eq!(moments.count(), MAX_COUNT);
+    ///
+    /// let full = moments;
+    /// assert_eq!(moments.merge(&two), Err(Refusal::Saturated));
+    /// assert_eq!(moments, full);
     /// # Ok(())
     /// # }
     /// ```

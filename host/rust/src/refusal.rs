@@ -77,6 +77,7 @@ reasons! {
     12 Variance "the point-to-plane variance is not finite and positive"
     13 FixedCount "the fixed set's count is below 0 (in a strict build only)"
     14 Transform "a transform has more than 9 columns or not dof rows, or a further one not as many columns as the one it multiplies has rows"
+    15 Saturated "the count is at or above 2^53 (in a push), or the exact sum of the two counts is above it (in a merge)"
 }
 
 impl fmt::Display for Refusal {
@@ -95,7 +96,7 @@ mod tests {
     fn only_0_is_accepted() {
         assert_eq!(Refusal::of_answer(0), Ok(()));
         assert_eq!(Refusal::of_answer(3), Err(Refusal::Length));
-        for answer in [1, 14, 15, u32::MAX] {
+        for answer in [1, 15, 16, u32::MAX] {
             assert_eq!(
                 Refusal::of_answer(answer).map_err(Refusal::number),
                 Err(answer)

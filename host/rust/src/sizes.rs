@@ -32,3 +32,7 @@ pub const MAX_RECORDS: usize = 65_536;
 
 /// The records of a group on a card; a last group may have fewer.
 pub const GROUP: usize = 8;
+
+/// The most points that a set counts: 2^53. An `f64` holds every whole number up to it, but not the next, so that one point
+/// more would change no count.
+pub const MAX_COUNT: f64 = 9_007_199_254_740_992.0;

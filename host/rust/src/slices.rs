@@ -36,7 +36,23 @@ pub fn moments_from_points(points: &[f64], moments: &mut [f64]) -> Result<(), Re
 ///
 /// # Errors
 ///
-/// [`Refusal::Length`]: `moments` has not [`MOMENTS`](crate::MOMENTS) numbers, or `point` not 3.
+/// [`Refusal::Length`]: `moments` has not [`MOMENTS`](crate::MOMENTS) numbers, or `point` not 3; then
+/// [`Refusal::Saturated`]: the count is at or above [`MAX_COUNT`](crate::MAX_COUNT), +infinity too; a NaN is not refused.
+///
+/// # Examples
+///
+/// ```
+/// use maghnelt::{slices, Refusal, MAX_COUNT, MOMENTS};
+///
+/// let mut moments = [0.0; MOMENTS];
+/// moments[0] = MAX_COUNT - 1.0;
+/// assert_eq!(slices::moments_push(&mut moments, &[1.0, 2.0, 3.0]), Ok(()));
+/// assert_eq!(moments[..4], [MAX_COUNT, 1.0, 2.0, 3.0]);
+///
+/// let full = moments;
+/// assert_eq!(slices::moments_push(&mut moments, &[1.0, 2.0, 3.0]), Err(Refusal::Saturated));
+/// assert_eq!(moments, full);
+/// ```
 #[inline]
 pub fn moments_push(moments: &mut [f64], point: &[f64]) -> Result<(), Refusal> {
     // SAFETY: as said at the head of this file.
@@ -54,7 +70,29 @@ pub fn moments_push(moments: &mut [f64], point: &[f64]) -> Result<(), Refusal> {
 ///
 /// # Errors
 ///
-/// [`Refusal::Length`]: one of the two has not [`MOMENTS`](crate::MOMENTS) numbers.
+/// [`Refusal::Length`]: one of the two has not [`MOMENTS`](crate::MOMENTS) numbers; then [`Refusal::Saturated`]: the exact sum
+/// of the two counts is above [`MAX_COUNT`](crate::MAX_COUNT), also where the rounded sum is not. An infinite count is above or
+/// below every number by its sign; two opposite infinities are not refused, and no NaN is.
+///
+/// # Examples
+///
+/// ```
+/// use maghnelt::{slices, Refusal, MAX_COUNT, MOMENTS};
+///
+/// let mut moments = [0.0; MOMENTS];
+/// moments[0] = MAX_COUNT - 1.0;
+/// let mut other = [0.0; MOMENTS];
+/// other[0] = 1.5;
+///
+/// // Half a point too many, though the sum is rounded to MAX_COUNT.
+/// let before = moments;
+/// assert_eq!(slices::moments_merge(&mut moments, &other), Err(Refusal::Saturated));
+/// assert_eq!(moments, before);
+///
+/// other[0] = 1.0;
+/// assert_eq!(slices::moments_merge(&mut moments, &other), Ok(()));
+/// assert_eq!(moments[0], MAX_COUNT);
+/// ```
 #[inline]
 pub fn moments_merge(moments: &mut [f64], other: &[f64]) -> Result<(), Refusal> {
     // SAFETY: as said at the head of this file.

@@ -4,7 +4,7 @@ use maghnelt::{Moments, Refusal, MAX_POINTS};
 use std::error::Error;
 
 /// Every reason, in the order of the numbers, with a word of its text.
-const REASONS: [(Refusal, &str); 14] = [
+const REASONS: [(Refusal, &str); 15] = [
     (Refusal::Dof, "dof"),
     (Refusal::EmptyList, "empty"),
     (Refusal::Length, "length"),
@@ -19,12 +19,13 @@ const REASONS: [(Refusal, &str); 14] = [
     (Refusal::Variance, "variance"),
     (Refusal::FixedCount, "is below 0"),
     (Refusal::Transform, "transform has"),
+    (Refusal::Saturated, "2^53"),
 ];
 
 #[test]
 fn reasons_are_numbered_from_1_on() {
     let numbers = REASONS.map(|(refusal, _)| refusal.number());
-    assert_eq!(numbers, [1, 2, 3, 4, 5, 6, 7, 8, 9, 10, 11, 12, 13, 14]);
+    assert_eq!(numbers, [1, 2, 3, 4, 5, 6, 7, 8, 9, 10, 11, 12, 13, 14, 15]);
 }
 
 #[test]

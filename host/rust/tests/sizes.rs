@@ -39,6 +39,13 @@ fn sizes_are_those_of_the_header() {
 }
 
 #[test]
+fn the_most_that_a_set_counts_is_that_of_the_header() {
+    assert_eq!(maghnelt::MAX_COUNT, 2f64.powi(53));
+    let line = format!("#define MAGHNELT_MAX_COUNT {:.1}", maghnelt::MAX_COUNT);
+    assert!(HEADER.lines().any(|said| said == line), "{line}");
+}
+
+#[test]
 fn words_are_those_of_the_header() {
     for (name, word) in [
         ("UNMAPPED", maghnelt::UNMAPPED),
