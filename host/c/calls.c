@@ -75,6 +75,61 @@ static void no_answer(void) {
            "a short record is refused and left");
 }
 
+/* A set of that count, with a NaN of a sign and a payload among its sums. */
+static void make_set(double count, double set[MAGHNELT_MOMENTS]) {
+    const double numbers[MAGHNELT_MOMENTS] = {count, 7};
+    const uint64_t bits = UINT64_C(0xFFF8000000000B0B);
+
+    memcpy(set, numbers, sizeof numbers);
+    memcpy(&set[3], &bits, sizeof bits);
+}
+
+static int is_left(double count, const double set[MAGHNELT_MOMENTS]) {
+    double made[MAGHNELT_MOMENTS];
+
+    make_set(count, made);
+    return memcmp(set, made, sizeof made) == 0;
+}
+
+/* What push and merge answer for these counts: accepted calls add, and refused ones leave the set. */
+static uint32_t pushed(double count) {
+    const double point[] = {1, 2, 3};
+    double set[MAGHNELT_MOMENTS];
+    uint32_t answer;
+
+    make_set(count, set);
+    answer = maghnelt_moments_push(SLICE(set), SLICE(point));
+    expect(answer == 0 ? set[1] == 8 : is_left(count, set), "a point is added, or the set is left");
+    return answer;
+}
+
+static uint32_t merged(double count, double other_count) {
+    const double other[MAGHNELT_MOMENTS] = {other_count, 1, 2, 3};
+    double set[MAGHNELT_MOMENTS];
+    uint32_t answer;
+
+    make_set(count, set);
+    answer = maghnelt_moments_merge(SLICE(set), SLICE(other));
+    expect(answer == 0 ? set[1] == 8 : is_left(count, set), "a set is added, or the other is left");
+    return answer;
+}
+
+static void full_counts(void) {
+    const double most = MAGHNELT_MAX_COUNT;
+    const double point[] = {1, 2, 3};
+    double set[MAGHNELT_MOMENTS] = {MAGHNELT_MAX_COUNT - 1};
+
+    expect(maghnelt_moments_push(SLICE(set), SLICE(point)) == 0 && set[0] == most, "a set is full");
+    expect(maghnelt_moments_push(SLICE(set), SLICE(point)) == 15 && set[0] == most && set[1] == 1, "and takes no more points");
+    expect(maghnelt_moments_push(SLICE(set), point, 2) == 3, "a wrong length comes before a full count");
+    expect(pushed(INFINITY) == 15 && pushed(-INFINITY) == 0 && pushed(NAN) == 0, "points for counts that are not finite");
+    expect(merged(most, 1) == 15 && merged(1, most) == 15 && merged(most, 5e-324) == 15, "a sum above the most is refused");
+    expect(merged(most - 1, 1.5) == 15, "also where the rounded sum is the most");
+    expect(merged(most - 1, 1) == 0 && merged(most, -0.0) == 0 && merged(most + 2, -2) == 0, "the most is accepted");
+    expect(merged(INFINITY, -1e308) == 15 && merged(-INFINITY, 1e308) == 0, "an infinite count is above or below every number");
+    expect(merged(INFINITY, -INFINITY) == 0 && merged(NAN, most) == 0, "a sum that is no number is accepted");
+}
+
 /* One record more than a group has, number f of record k being 100 * k + f, but for a NaN with a sign and a payload. */
 static void cards(void) {
     const size_t whole = MAGHNELT_GROUP * MAGHNELT_MOMENTS;
@@ -503,6 +558,7 @@ int main(void) {
     leaves();
     moments();
     no_answer();
+    full_counts();
     cards();
     planes();
     block_maps();
