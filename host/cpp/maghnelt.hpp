@@ -54,6 +54,8 @@ inline const char *reason_text(std::uint32_t reason) noexcept {
         return "the fixed set's count is below 0 (in a strict build only)";
     case 14:
         return "a transform has more than 9 columns or not dof rows, or a further one not as many columns as the one it multiplies has rows";
+    case 15:
+        return "the count is at or above 2^53 (in a push), or the exact sum of the two counts is above it (in a merge)";
     default:
         return "one that this version of the header does not know";
     }
@@ -183,10 +185,13 @@ class Moments {
         return moments;
     }
 
+    // One point more. Refused by 15 if the count is at or above MAGHNELT_MAX_COUNT; the set is then as it was.
     void push(const Eigen::Vector3d &point) {
         detail::accept(maghnelt_moments_push(MAGHNELT_LENT(numbers), MAGHNELT_LENT(point)));
     }
 
+    // The points of another set too. Refused by 15 if the exact sum of the two counts is above MAGHNELT_MAX_COUNT; the set is then as
+    // it was.
     void merge(const Moments &other) {
         // The library lends the one for writing, so that a set merged with itself needs a copy.
         const Record copy = other.numbers;
