@@ -6,6 +6,7 @@ pub mod beside;
 pub mod builds;
 pub mod bundled;
 pub mod called;
+pub mod counts;
 pub mod draws;
 pub mod generator;
 pub mod groups;

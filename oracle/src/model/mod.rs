@@ -6,6 +6,7 @@
 pub mod blocks;
 pub mod bundle;
 pub mod cards;
+pub mod counts;
 pub mod frames;
 pub mod matches;
 pub mod moments;
@@ -40,6 +41,8 @@ pub const VARIANCE: u32 = 12;
 pub const FIXED_COUNT: u32 = 13;
 /// The reason for a transform of a wrong shape.
 pub const SHAPE: u32 = 14;
+/// The reason for a count that is saturated, or would be.
+pub const SATURATED: u32 = 15;
 
 /// The most columns of an action's derivatives.
 pub const MAX_DOF: u32 = 9;
