@@ -5,7 +5,7 @@ use oracle::groups::{
     bundle_fit, bundle_linearize, cards, frames_accumulate, frames_accumulate_transformed,
     frames_build, frames_build_strict, frames_fit, frames_linearize, lists, match_linearize,
     matches_accumulate, matches_accumulate_transformed, matches_linearize, moments, moments_plane,
-    number, order, plane_new, remap, root_steps, scatter, sigma, sqrt, transform,
+    number, order, plane_new, push_merge, remap, root_steps, scatter, sigma, sqrt, transform,
 };
 use oracle::report::Report;
 use std::collections::BTreeMap;
@@ -43,8 +43,13 @@ const GROUPS: &[Group] = &[
     },
     Group {
         name: "moments",
-        about: "moments from points, pushed, merged and moved, against a model",
+        about: "moments from points and moved against a model",
         run: moments::run,
+    },
+    Group {
+        name: "push_merge",
+        about: "points pushed, sets merged, and counts that refuse both, against a model",
+        run: push_merge::run,
     },
     Group {
         name: "scatter",

@@ -22,6 +22,7 @@ pub mod moments_plane;
 pub mod number;
 pub mod order;
 pub mod plane_new;
+pub mod push_merge;
 pub mod remap;
 pub mod root_steps;
 pub mod scatter;

@@ -1,4 +1,4 @@
-//! The calls that make, add and move moments, against the model.
+//! The calls that make and move moments, against the model.
 
 use crate::draws::{self, numbers, old, record, slices, stored, Pose, Wall};
 use crate::generator::Generator;
@@ -10,8 +10,6 @@ use maghnelt::{slices as library, MAX_POINTS, MOMENTS};
 /// The calls that are compared.
 struct Calls {
     from_points: Box<Call<'static, 2>>,
-    push: Box<Call<'static, 2>>,
-    merge: Box<Call<'static, 2>>,
     transformed: Box<Call<'static, 4>>,
 }
 
@@ -20,8 +18,6 @@ fn of_library() -> Calls {
         from_points: Box::new(|[points, moments], _| {
             number(library::moments_from_points(points, moments))
         }),
-        push: Box::new(|[moments, point], _| number(library::moments_push(moments, point))),
-        merge: Box::new(|[moments, other], _| number(library::moments_merge(moments, other))),
         transformed: Box::new(|[moments, a, b, out], _| {
             number(library::moments_transformed(moments, a, b, out))
         }),
@@ -31,8 +27,6 @@ fn of_library() -> Calls {
 fn of_model() -> Calls {
     Calls {
         from_points: Box::new(model::from_points_call(model::with_point)),
-        push: Box::new(model::push_call(model::with_point)),
-        merge: Box::new(model::merge_call(model::merged)),
         transformed: Box::new(model::transformed_call(model::transformed)),
     }
 }
@@ -53,8 +47,6 @@ fn compare(calls: &Calls, generator: &mut Generator, count: u64, report: &mut Re
 
 struct Comparisons<'a> {
     from_points: Comparison<'a, 2>,
-    push: Comparison<'a, 2>,
-    merge: Comparison<'a, 2>,
     transformed: Comparison<'a, 4>,
 }
 
@@ -67,20 +59,6 @@ impl<'a> Comparisons<'a> {
                 1,
                 &calls.from_points,
                 &model.from_points,
-            ),
-            push: Comparison::new(
-                "moments_push",
-                ["moments", "point"],
-                0,
-                &calls.push,
-                &model.push,
-            ),
-            merge: Comparison::new(
-                "moments_merge",
-                ["moments", "other"],
-                0,
-                &calls.merge,
-                &model.merge,
             ),
             transformed: Comparison::new(
                 "moments_transformed",
@@ -103,10 +81,6 @@ impl<'a> Comparisons<'a> {
         let record = Some(MOMENTS);
         self.from_points
             .check_lengths([Some(9), record], generator, report);
-        self.push
-            .check_lengths([record, Some(3)], generator, report);
-        self.merge
-            .check_lengths([record, record], generator, report);
         self.transformed
             .check_lengths([record, Some(9), Some(3), record], generator, report);
     }
@@ -116,11 +90,9 @@ impl<'a> Comparisons<'a> {
         let points = some_points(generator);
         let out = old(MOMENTS, generator);
         self.from_points.check([&points, &out], report);
-        let (moments, other) = (record(generator), record(generator));
-        self.push.check([&moments, &some_point(generator)], report);
-        self.merge.check([&moments, &other], report);
         let (a, b) = some_map(generator);
-        self.transformed.check([&moments, &a, &b, &out], report);
+        self.transformed
+            .check([&record(generator), &a, &b, &out], report);
     }
 }
 
@@ -137,13 +109,6 @@ fn some_points(generator: &mut Generator) -> Vec<f64> {
     } else {
         let [points] = slices([3 * points], generator);
         points
-    }
-}
-
-fn some_point(generator: &mut Generator) -> [f64; 3] {
-    match generator.below(3) {
-        0 => Wall::random(generator).point(generator),
-        _ => numbers(generator),
     }
 }
 
@@ -265,66 +230,6 @@ mod tests {
             with_from_points(|[points, moments], found| {
                 let whole = points.len() / 3 * 3;
                 right_from_points([&mut points[..whole], moments], found)
-            }) > 0
-        );
-    }
-
-    #[test]
-    fn squares_in_place_of_products_are_found() {
-        let squares = |moments: Moments, p: Vector| Moments {
-            outer: matrix(|r, c| moments.outer[r][c] + p[r] * p[r]),
-            ..model::with_point(moments, p)
-        };
-        assert!(
-            mismatches(Calls {
-                push: Box::new(model::push_call(squares)),
-                ..of_model()
-            }) > 0
-        );
-    }
-
-    #[test]
-    fn a_push_that_fuses_product_and_sum_is_found() {
-        let fused = |moments: Moments, p: Vector| Moments {
-            outer: matrix(|r, c| p[r].mul_add(p[c], moments.outer[r][c])),
-            ..model::with_point(moments, p)
-        };
-        assert!(
-            mismatches(Calls {
-                push: Box::new(model::push_call(fused)),
-                ..of_model()
-            }) > 0
-        );
-    }
-
-    #[test]
-    fn a_merge_that_leaves_the_outer_products_is_found() {
-        let left = |moments: Moments, other: Moments| Moments {
-            outer: moments.outer,
-            ..model::merged(moments, other)
-        };
-        assert!(
-            mismatches(Calls {
-                merge: Box::new(model::merge_call(left)),
-                ..of_model()
-            }) > 0
-        );
-    }
-
-    #[test]
-    fn a_refused_merge_that_writes_is_found() {
-        let right = model::merge_call(model::merged);
-        assert!(
-            mismatches(Calls {
-                merge: Box::new(move |[moments, other], found| {
-                    if let (Some(first), Some(second)) = (moments.first_mut(), other.first()) {
-                        if other.len() == MOMENTS + 1 {
-                            *first += second;
-                        }
-                    }
-                    right([moments, other], found)
-                }),
-                ..of_model()
             }) > 0
         );
     }

@@ -1,8 +1,9 @@
 //! The model of the calls on moments.
 
+use super::counts::{refuses_merge, refuses_push};
 use super::{
-    congruent, dot, matrix, store_matrix, stored_matrix, stored_vector, vector, Matrix, Vector,
-    LENGTH,
+    congruent, dot, first, matrix, store_matrix, stored_matrix, stored_vector, vector, Matrix,
+    Vector, LENGTH, SATURATED,
 };
 use maghnelt::{DECOMPOSITION, MAX_POINTS, MOMENTS};
 
@@ -143,7 +144,7 @@ pub fn plane(moments: Moments, decomposition: &Decomposition) -> Option<Fitted> 
     })
 }
 
-// The calls: lengths first. Each takes the function that works out its answer, so that a wrong one makes a wrong call.
+// The calls: lengths first, and counts last. Each takes the functions that work out its answer, so that a wrong one makes a wrong call.
 
 /// The call `moments_from_points` on points and moments.
 pub fn from_points_call(
@@ -163,29 +164,50 @@ pub fn from_points_call(
     }
 }
 
+/// Why a push is refused.
+pub fn push_refusal(moments: &[f64], point: &[f64]) -> u32 {
+    let saturated = moments.first().is_some_and(|&count| refuses_push(count));
+    first(&[
+        (LENGTH, moments.len() != MOMENTS || point.len() != 3),
+        (SATURATED, saturated),
+    ])
+}
+
 /// The call `moments_push` on moments and point.
 pub fn push_call(
+    refusal: impl Fn(&[f64], &[f64]) -> u32,
     with_point: impl Fn(Moments, Vector) -> Moments,
 ) -> impl Fn([&mut [f64]; 2], &mut u32) -> u32 {
     move |[moments, point], _| {
-        if moments.len() != MOMENTS || point.len() != 3 {
-            return LENGTH;
+        let answer = refusal(moments, point);
+        if answer == 0 {
+            with_point(Moments::read(moments), stored_vector(point)).write(moments);
         }
-        with_point(Moments::read(moments), stored_vector(point)).write(moments);
-        0
+        answer
     }
+}
+
+/// Why a merge is refused.
+pub fn merge_refusal(moments: &[f64], other: &[f64]) -> u32 {
+    let counts = moments.first().zip(other.first());
+    let saturated = counts.is_some_and(|(&a, &b)| refuses_merge(a, b));
+    first(&[
+        (LENGTH, moments.len() != MOMENTS || other.len() != MOMENTS),
+        (SATURATED, saturated),
+    ])
 }
 
 /// The call `moments_merge` on moments and the other's.
 pub fn merge_call(
+    refusal: impl Fn(&[f64], &[f64]) -> u32,
     merged: impl Fn(Moments, Moments) -> Moments,
 ) -> impl Fn([&mut [f64]; 2], &mut u32) -> u32 {
     move |[moments, other], _| {
-        if moments.len() != MOMENTS || other.len() != MOMENTS {
-            return LENGTH;
+        let answer = refusal(moments, other);
+        if answer == 0 {
+            merged(Moments::read(moments), Moments::read(other)).write(moments);
         }
-        merged(Moments::read(moments), Moments::read(other)).write(moments);
-        0
+        answer
     }
 }
 
