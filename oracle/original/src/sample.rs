@@ -11,6 +11,7 @@ use crate::calls::{Value, CALLS, FROM_POINTS};
 use crate::case::{After, Case, Cell};
 use crate::jobs::{few_states, JOBS};
 use oracle::generator::Generator;
+use oracle::model::SATURATED;
 use std::collections::{HashMap, HashSet};
 
 /// The most numbers of a list; the fewest and the most of a list of matches that is longer: just more than a group of 512.
@@ -30,6 +31,8 @@ fn taken_of(case: &Case) -> [usize; 3] {
         _ if is_long(case) => [1, 1, 0],
         _ if has_transforms(case) => taken_transformed(case),
         _ if is_wide(case) => [10, 10, 0],
+        _ if case.kind.starts_with("near 2^53") => [3, 3, 0],
+        _ if case.kind.starts_with("far from 2^53") => [1, 1, 0],
         // So many pairs can be spoilt that one of each would take a third of its room.
         ("bundle_linearize", _) if is_refused_twice(case) => [0, 4, 24],
         _ if case.kind.starts_with("refused by") => [1, 4, 24],
@@ -67,7 +70,12 @@ fn key(case: &Case) -> String {
         Some((group, rest)) if GROUPS.contains(&group) => rest,
         _ => &case.kind,
     };
-    format!("{} {kind} {}", case.call.name, case.answer)
+    // What is refused by 15 is of the kinds of what the original takes.
+    let answer = match case.answer {
+        SATURATED => 0,
+        answer => answer,
+    };
+    format!("{} {kind} {answer}", case.call.name)
 }
 
 /// The kind of a call with transforms: its other inputs count for less.

@@ -5,10 +5,11 @@ use apex_manifolds::capability::ActsOnPoints3;
 use apex_manifolds::se3::SE3;
 use apex_manifolds::{Affine, LieGroup};
 use faer::mat::MatMut;
-use maghnelt::slices::bundle_fit;
+use maghnelt::slices::{bundle_fit, moments_merge, moments_push};
 use maghnelt::Refusal;
 use nalgebra::{eigen, DMatrix, DVector, Matrix3, Vector3};
 use oracle::generator::Generator;
+use original::calls::Value;
 use original::case::{After, Case, Cell};
 use original::factors::lidar::map_plane::point_to_plane_sigma;
 use original::factors::lidar::map_planes::{LidarMapPlanesFactor, PlaneMatch};
@@ -350,6 +351,64 @@ fn a_further_transform_multiplies_from_the_left() {
         blocks.add_hessian(1, 1, &ones);
     });
     assert_eq!(hessian, [49.0]);
+}
+
+/// A set of that many points, all at the origin.
+fn at_origin(count: f64) -> PointMoments {
+    PointMoments {
+        count,
+        ..PointMoments::default()
+    }
+}
+
+/// The same as a record.
+fn record_at_origin(count: f64) -> [f64; 13] {
+    std::array::from_fn(|place| if place == 0 { count } else { 0.0 })
+}
+
+#[test]
+fn a_saturated_count_stands_still_and_is_refused() {
+    let mut set = at_origin(WHOLE);
+    set.push(&Vector3::zeros());
+    assert_eq!(set.count, WHOLE);
+    let mut record = record_at_origin(WHOLE);
+    let refused = moments_push(&mut record, &[0.0; 3]).map_err(Refusal::number);
+    assert_eq!((refused, record), (Err(15), record_at_origin(WHOLE)));
+    // The exact sum is above 2^53, the rounded one is not.
+    for [count, other] in [[WHOLE, 5e-324], [WHOLE - 1.0, 1.5]] {
+        let mut set = at_origin(count);
+        set.merge(&at_origin(other));
+        assert_eq!(set.count, WHOLE);
+        let mut record = record_at_origin(count);
+        let refused = moments_merge(&mut record, &record_at_origin(other)).map_err(Refusal::number);
+        assert_eq!((refused, record), (Err(15), record_at_origin(count)));
+    }
+}
+
+#[test]
+fn counts_about_2_to_the_53_are_refused_and_taken() {
+    let job = JOBS.iter().find(|job| job.name == "counts").unwrap();
+    let mut cases: Vec<Case> = Vec::new();
+    for seed in 0..300 {
+        (job.run)(&mut Generator::new(seed), &mut cases);
+    }
+    for name in ["moments_push", "moments_merge"] {
+        for (label, answer) in [("taken", 0), ("refused", 15)] {
+            let kind = format!("near 2^53 {label}");
+            let found = cases.iter().filter(|case| {
+                case.call.name == name && case.kind == kind && case.answer == answer
+            });
+            assert!(found.count() > 30, "{name} {kind}");
+        }
+        // A length is wrong too.
+        let spoilt = cases.iter().filter(|case| {
+            let Value::Numbers(set) = &case.before[0] else {
+                panic!("moments are numbers")
+            };
+            case.call.name == name && case.answer == 3 && set[0] > WHOLE
+        });
+        assert!(spoilt.count() > 5, "{name}");
+    }
 }
 
 #[test]

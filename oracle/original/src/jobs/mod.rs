@@ -2,6 +2,7 @@
 //! with its answer.
 
 mod bundles;
+mod counts;
 mod draw;
 mod frames;
 mod maps;
@@ -61,5 +62,9 @@ pub static JOBS: &[Job] = &[
     Job {
         name: "transforms",
         run: transforms::run,
+    },
+    Job {
+        name: "counts",
+        run: counts::run,
     },
 ];

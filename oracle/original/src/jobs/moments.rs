@@ -8,6 +8,8 @@ use crate::factors::lidar::plane_moments::PointMoments;
 use nalgebra::{eigen, Matrix3, Vector3};
 use oracle::draws;
 use oracle::generator::Generator;
+use oracle::model::counts::{refuses_merge, refuses_push};
+use oracle::model::SATURATED;
 
 /// The thirteen numbers of moments.
 pub fn numbers(moments: &PointMoments) -> Vec<f64> {
@@ -78,28 +80,14 @@ pub fn run(generator: &mut Generator, cases: &mut Vec<Case>) {
         Temper::Met => draw::piece(generator).point(generator).to_vec(),
         _ => temper.any(3, generator),
     };
-    let mut pushed = moments;
-    pushed.push(&vector(&point));
-    cases.push(Case::accepted(
-        &calls::PUSH,
-        kind(""),
-        vec![Value::Numbers(record.clone()), Value::Numbers(point)],
-        [("moments", After::numbers(&numbers(&pushed)))],
-    ));
+    cases.push(push(record.clone(), point, kind("")));
 
     let other = match temper {
         Temper::Met => draws::record_of(&draw::piece(generator), generator).to_vec(),
         Temper::Hostile => draws::record(generator).to_vec(),
         Temper::Zeros => temper.any(13, generator),
     };
-    let mut merged = moments;
-    merged.merge(&of_numbers(&other));
-    cases.push(Case::accepted(
-        &calls::MERGE,
-        kind(""),
-        vec![Value::Numbers(record.clone()), Value::Numbers(other)],
-        [("moments", After::numbers(&numbers(&merged)))],
-    ));
+    cases.push(merge(record.clone(), other, kind("")));
 
     let (a, b) = match temper {
         Temper::Met => {
@@ -149,6 +137,32 @@ pub fn run(generator: &mut Generator, cases: &mut Vec<Case>) {
     });
     cases.push(plane(&moments, temper, generator));
     refused::add(cases, generator);
+}
+
+/// A push. The original has no 15: document 02 says where a push is refused by it, and elsewhere the original what it leaves.
+pub fn push(record: Vec<f64>, point: Vec<f64>, kind: String) -> Case {
+    let mut moments = of_numbers(&record);
+    moments.push(&vector(&point));
+    let is_refused = refuses_push(record[0]);
+    let before = vec![Value::Numbers(record), Value::Numbers(point)];
+    if is_refused {
+        return Case::refused(&calls::PUSH, kind, before, SATURATED);
+    }
+    let after = After::numbers(&numbers(&moments));
+    Case::accepted(&calls::PUSH, kind, before, [("moments", after)])
+}
+
+/// A merge, likewise.
+pub fn merge(record: Vec<f64>, other: Vec<f64>, kind: String) -> Case {
+    let mut moments = of_numbers(&record);
+    moments.merge(&of_numbers(&other));
+    let is_refused = refuses_merge(record[0], other[0]);
+    let before = vec![Value::Numbers(record), Value::Numbers(other)];
+    if is_refused {
+        return Case::refused(&calls::MERGE, kind, before, SATURATED);
+    }
+    let after = After::numbers(&numbers(&moments));
+    Case::accepted(&calls::MERGE, kind, before, [("moments", after)])
 }
 
 /// The plane of moments, by LAPACK's decomposition of their scatter or by one at which the answer changes.

@@ -1,5 +1,5 @@
-//! Calls that are refused by rules that the Rust does not have, or has elsewhere: an accepted call with one or two things
-//! spoilt. Here documents 01 and 02 say the number and not the original; of two reasons the lower-placed one is answered.
+//! Calls that are refused by rules that the Rust does not have, or has elsewhere: a call with one or two things spoilt. Here
+//! documents 01 and 02 say the number and not the original; of two reasons the lower-placed one is answered.
 
 use super::draw;
 use super::tried::Tried;
@@ -8,6 +8,7 @@ use crate::case::{place, Case};
 use crate::core::variable::ManifoldVariable;
 use crate::factors::{Factor, FactorError};
 use oracle::generator::Generator;
+use oracle::model::SATURATED;
 use std::marker::PhantomData;
 
 /// A parameter spoilt, and the reason.
@@ -26,8 +27,8 @@ fn rank(reason: u32) -> u32 {
     }
 }
 
-/// For every third job, adds an accepted call of the list with something spoilt, and for every other job with transforms such
-/// a call with a bad shape or a segment past the end.
+/// For every third job, adds a call of the list with something spoilt, and for every other job with transforms an accepted one
+/// with a bad shape or a segment past the end.
 pub fn add(cases: &mut Vec<Case>, generator: &mut Generator) {
     let any = any_spoilt(cases, generator);
     let shape = shape_spoilt(cases, generator);
@@ -35,11 +36,13 @@ pub fn add(cases: &mut Vec<Case>, generator: &mut Generator) {
 }
 
 fn any_spoilt(cases: &[Case], generator: &mut Generator) -> Option<Case> {
-    let accepted: Vec<&Case> = cases.iter().filter(|case| case.answer == 0).collect();
-    if accepted.is_empty() || generator.below(3) != 0 {
+    // What is refused by 15 may be spoilt as what is accepted: 15 is tested last.
+    let is_sound = |case: &&Case| matches!(case.answer, 0 | SATURATED);
+    let sound: Vec<&Case> = cases.iter().filter(is_sound).collect();
+    if sound.is_empty() || generator.below(3) != 0 {
         return None;
     }
-    let case = generator.pick(&accepted);
+    let case = generator.pick(&sound);
     let mut spoils = all(case, generator);
     let first = drawn(&mut spoils, generator)?;
     Some(spoilt(case, first, spoils, generator))
