@@ -2,10 +2,9 @@
 ghost use mathlib.Core.Path.{_≡_};
 ghost use mathlib.Core.Bool.{not};
 ghost use mathlib.Core.List.{_++_};
-ghost use Prim.Native.Nat.{_≤_};
 ghost use Rattle.sums.specs.Sum.{tab};
 ghost use Rattle.validate.specs.Finite.{allFinite};
-ghost use Rattle.bundle_points.specs.Points.{mostPoints, numberOf, coordinateSum, centroid, scatter};
+ghost use Rattle.bundle_points.specs.Points.{coordinateSum, centroid, scatter};
 ghost use Rattle.bundle_points.specs.Steps.{Taken, addPoints, addSpread};
 
 // The most points, fixed ones too.
@@ -53,21 +52,12 @@ pub fn some_not_finite(points: &[f64], fixed: &[f64], sums: [f64; 3]) -> bool
     }
 }
 
-// A number of points as an f64, which is exact.
-fn number(n: usize) -> f64
-    requires { ⌜ n ≤ mostPoints ⌝ }
-    ensures { λ r. ⌜ r ≡ numberOf n ⌝ }
-{
-    let m = n as u32;
-    m as f64
-}
-
 // The centroid by the coordinates' sums.
 pub fn centroid(points: &[f64], fixed: &[f64], sums: [f64; 3]) -> [f64; 3]
     requires { ⌜ Taken (now points) (now fixed) × (sums ≡ tab 3 (coordinateSum (now points ++ now fixed))) ⌝ }
     ensures { λ r. ⌜ r ≡ centroid (now (points .entry) ++ now (fixed .entry)) ⌝ }
 {
-    let n = number(points.len() / 3 + fixed.len() / 3);
+    let n = counts::number(points.len() / 3 + fixed.len() / 3);
     linear::divided3(sums, n)
 }
 
@@ -108,7 +98,7 @@ pub fn scatter(points: &[f64], fixed: &[f64], q: [f64; 3]) -> [f64; 9]
 {
     let site = add_spread(points, q, [0.0, 0.0, 0.0, 0.0, 0.0, 0.0]);
     let all = add_spread(fixed, q, site);
-    let n = number(points.len() / 3 + fixed.len() / 3);
+    let n = counts::number(points.len() / 3 + fixed.len() / 3);
     let xx = all[0] / n;
     let xy = all[1] / n;
     let xz = all[2] / n;

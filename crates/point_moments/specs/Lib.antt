@@ -1,3 +1,4 @@
 pub mod Moments
 pub mod Scatter
 pub mod Plane
+pub mod Steps

@@ -3,10 +3,14 @@ pub mod plane;
 pub mod scatter;
 
 ghost use mathlib.Core.Path.{_≡_};
-ghost use Prim.Native.Nat.{_*_, _/_, _≤_};
+ghost use Prim.Native.Nat.{_/_, _≤_};
 ghost use lib.ListN.{length};
 ghost use Rattle.refusals.specs.Refusal.{firstOf};
-ghost use Rattle.point_moments.specs.Moments.{MOMENTS, momentsOf, momentsList, empty, withPoint, merged, transformed, ofPoints, pointReasons};
+ghost use lib.IntN.{pos};
+ghost use Rattle.counts.specs.Whole.{floatOf};
+ghost use Rattle.point_moments.specs.Steps.{ofSums};
+ghost use Rattle.point_moments.specs.Moments.{MOMENTS, MOST_POINTS, momentsOf, momentsList, empty, withPoint, merged, transformed, ofPoints, pointReasons};
+use point_sums::Sums;
 
 // The outer products are by columns.
 pub struct PointMoments {
@@ -101,7 +105,8 @@ impl PointMoments {
         requires { ⌜ firstOf (pointReasons (now points)) ≡ 0 ⌝ }
         ensures { λ r. ⌜ r ≡ ofPoints (length (now (points .entry)) / 3) (now (points .entry)) ⌝ }
     {
-        of_points(points, points.len() / 3)
+        let n = points.len() / 3;
+        of_sums(n, point_sums::sums_of(points, n))
     }
 
     // Of the points a·p + b.
@@ -131,17 +136,17 @@ pub fn points_refusal(points: &[f64]) -> u32
     0
 }
 
-// Of the first n points.
-fn of_points(points: &[f64], n: usize) -> PointMoments
-    requires { ⌜ n * 3 ≤ length (now points) ⌝ }
-    ensures { λ r. ⌜ r ≡ ofPoints n (now (points .entry)) ⌝ }
+// Of n points that have these sums.
+fn of_sums(n: usize, s: Sums) -> PointMoments
+    requires { ⌜ n ≤ MOST_POINTS ⌝ }
+    ensures { λ r. ⌜ r ≡ ofSums (floatOf (pos n)) s ⌝ }
 {
-    let mut m = PointMoments::empty();
-    let mut i = 0;
-    while i < n {
-        let j = i * 3;
-        m = m.with_point(lists::three(points, j));
-        i += 1;
+    let xy = s.xy;
+    let xz = s.xz;
+    let yz = s.yz;
+    PointMoments {
+        count: counts::number(n),
+        sum: [s.x, s.y, s.z],
+        outer: [s.xx, xy, xz, xy, s.yy, yz, xz, yz, s.zz],
     }
-    m
 }
