@@ -1,7 +1,7 @@
 //! The calls on moments, against plain Rust on plain arrays of the same layout.
 
 use crate::harness::{measure_updated, measure_written};
-use maghnelt::{slices, MAX_POINTS, MOMENTS};
+use maghnelt::{slices, MAX_COUNT, MAX_POINTS, MOMENTS};
 use oracle::draws::{record_of, stored, Pose, Wall};
 use oracle::generator::Generator;
 
@@ -63,7 +63,9 @@ fn measure_push_and_merge(generator: &mut Generator) {
         |moments, point| {
             _ = slices::moments_push(moments, point);
         },
-        plain::push,
+        |moments, point| {
+            plain::push(moments, point);
+        },
     );
     let others = some_records(generator);
     measure_updated(
@@ -73,7 +75,9 @@ fn measure_push_and_merge(generator: &mut Generator) {
         |moments, other| {
             _ = slices::moments_merge(moments, other);
         },
-        plain::merge,
+        |moments, other| {
+            plain::merge(moments, other);
+        },
     );
 }
 
@@ -122,14 +126,37 @@ fn measure_mean_and_scatter(generator: &mut Generator) {
 /// The same in plain Rust: the compiler knows every length and inlines all below the outermost functions, which are
 /// called as the library's are.
 pub mod plain {
-    use super::{Record, MOMENTS};
+    use super::{Record, MAX_COUNT};
 
     /// Where the sum and the outer products are in a record, after the count.
     const SUM: usize = 1;
     const OUTER: usize = 4;
 
-    #[inline(always)]
-    fn add(moments: &mut Record, point: &[f64; 3]) {
+    /// Six products and three coordinates are summed: y·x has the bits of x·y. The count is converted once.
+    #[inline(never)]
+    pub fn from_points(points: &[[f64; 3]], out: &mut Record) {
+        let mut sum = [0.0; 3];
+        let mut products = [0.0; 6];
+        for &[x, y, z] in points {
+            for (sum, number) in sum.iter_mut().zip([x, y, z]) {
+                *sum += number;
+            }
+            let new = [x * x, y * x, z * x, y * y, z * y, z * z];
+            for (product, number) in products.iter_mut().zip(new) {
+                *product += number;
+            }
+        }
+        let ([x, y, z], [xx, yx, zx, yy, zy, zz]) = (sum, products);
+        let count = points.len() as f64;
+        *out = [count, x, y, z, xx, yx, zx, yx, yy, zy, zx, zy, zz];
+    }
+
+    /// False where the count is full, and nothing is added then.
+    #[inline(never)]
+    pub fn push(moments: &mut Record, point: &[f64; 3]) -> bool {
+        if moments[0] >= MAX_COUNT {
+            return false;
+        }
         moments[0] += 1.0;
         for r in 0..3 {
             moments[SUM + r] += point[r];
@@ -139,27 +166,31 @@ pub mod plain {
                 moments[OUTER + 3 * c + r] += point[r] * point[c];
             }
         }
+        true
     }
 
-    #[inline(never)]
-    pub fn from_points(points: &[[f64; 3]], out: &mut Record) {
-        let mut moments = [0.0; MOMENTS];
-        for point in points {
-            add(&mut moments, point);
+    /// Whether two counts come to more than one set counts. Where their rounded sum is that number, the larger one's difference to
+    /// it is exact.
+    #[inline(always)]
+    fn too_many(a: f64, b: f64) -> bool {
+        let sum = a + b;
+        if sum < MAX_COUNT {
+            return false;
         }
-        *out = moments;
+        let (low, high) = if a < b { (a, b) } else { (b, a) };
+        sum > MAX_COUNT || low > MAX_COUNT - high
     }
 
+    /// False where the two counts come to too many, and nothing is added then.
     #[inline(never)]
-    pub fn push(moments: &mut Record, point: &[f64; 3]) {
-        add(moments, point);
-    }
-
-    #[inline(never)]
-    pub fn merge(moments: &mut Record, other: &Record) {
+    pub fn merge(moments: &mut Record, other: &Record) -> bool {
+        if too_many(moments[0], other[0]) {
+            return false;
+        }
         for (number, other) in moments.iter_mut().zip(other) {
             *number += other;
         }
+        true
     }
 
     #[inline(never)]

@@ -1,26 +1,20 @@
--- What is accepted is exact, and what is refused is exactly what would not be. Of whole counts that are not far below 0: below -2^53 a count is as coarse as above 2^53, and
+-- What is accepted is exact, and what is refused is what would not be: of whole counts whose sum is not below -2^53. Below that, numbers are as coarse as above 2^53, and
 -- document 02 refuses nothing there. Assumes nothing.
 use Prim.Native.Nat.{ℕ, zero, suc, _+_, _-_, _*_, _^_, _≤_, _<_}
-use mathlib.Core.Path.{_≡_, refl, sym, ap, _∙_, subst}
-use mathlib.Core.Bool.{Bool, true, false, false≢true}
+use mathlib.Core.Path.{_≡_, refl, sym, ap, _∙_}
+use mathlib.Core.Bool.{Bool, true, false}
 use native.Mathlib.Omega.{arith}
 use native.Mathlib.Nat.{mul-one, mul-lt-mul-of-pos-right}
-use lib.IntN.{ℤ, pos, negsuc, negℤ, natAbs, _+ℤ_}
+use lib.IntN.{ℤ, pos, negsuc, natAbs, _+ℤ_}
 use lib.Dec.{T, ltb, leb}
-use lib.Ieee.{Float, nan, inf, fin, binary64, up, down, add, fits, ofInt}
+use lib.Ieee.{Float, nan, inf, fin, binary64, up, down, add, fits}
 use lib.Ieee.Fits.{add-fits, down-pos}
-use lib.Ieee.Exact.{HasValue}
-use borrow.Author.Tests.{ltb-true, ltb-false, leb-true, leb-false, lt-ltb, le-ltb, lt-leb, le-leb}
-use Rattle.counts.specs.Whole.{signed, floatOf, Whole}
+use borrow.Author.Tests.{ltb-true, ltb-false, leb-true, leb-false, lt-ltb, le-ltb}
+use Rattle.counts.specs.Whole.{floatOf, Whole, NotBelow}
 use Rattle.counts.specs.Saturation.{MOST, atLeast, above, pushSaturates, mergeSaturates}
 use Rattle.counts.proofs.Whole.{whole-sum, float-whole, signed-size}
 use Rattle.counts.proofs.Laws.{push-whole, merge-whole}
 use Rattle.counts.proofs.Tests.{even}
-
--- a whole number is not below -2^53
-abbrev pub NotBelow : ℤ → Type 0
-NotBelow (pos n) = Unit {0}
-NotBelow (negsuc n) = suc n ≤ MOST
 
 small : (z : ℤ) → above MOST z ≡ false → NotBelow z → natAbs z ≤ 2 ^ 53
 small (pos n) h l = ltb-false MOST n h
@@ -50,7 +44,7 @@ push-merge x z u = push-whole x z u ∙ one-more z ∙ sym (merge-whole x (float
 pub push-exact : (x : Float) (z : ℤ) → Whole x z → NotBelow (z +ℤ pos 1) → pushSaturates x ≡ false → Whole (add binary64 x (floatOf (pos 1))) (z +ℤ pos 1)
 push-exact x z u l h = merge-exact x (floatOf (pos 1)) z (pos 1) u one-whole l (sym (push-merge x z u) ∙ h)
 
--- ---- a refused push: the new count would be no whole number that is one more, since from 2^53 on all floats are even
+-- ---- a refused push: the new count would not be one more, since from 2^53 on all numbers of the format are even
 half-of : (x : Float) (n : ℕ) → T (fits binary64 x) → Whole x (pos n) → MOST ≤ n → (k : ℕ) × (n ≡ 2 * k)
 half-of nan n f (s, a, h, e) l = absurd h
 half-of (inf r) n f (s, a, h, e) l = absurd h

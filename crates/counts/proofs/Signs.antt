@@ -1,10 +1,10 @@
 -- The exact sum of two signed whole numbers against a bound, sign by sign. Assumes nothing.
-use Prim.Native.Nat.{ℕ, zero, suc, _+_, _-_, _<_, _≤_}
+use Prim.Native.Nat.{ℕ, zero, suc, _+_, _-_, _<_}
 use mathlib.Core.Path.{_≡_, refl, sym, _∙_}
 use mathlib.Core.Bool.{Bool, true, false}
 use native.Mathlib.Omega.{arith}
 use native.Mathlib.Nat.{lt-of-not-le, le-of-suc-le-suc}
-use lib.IntN.{ℤ, pos, negsuc, negℤ, _+ℤ_, +ℤ-comm, negℤ-+ℤ}
+use lib.IntN.{ℤ, pos, negℤ, _+ℤ_, +ℤ-comm, negℤ-+ℤ}
 use lib.Dec.{ltb}
 use borrow.Author.Tests.{ltb-true, ltb-false, lt-ltb, le-ltb, lt-leb}
 use Rattle.counts.specs.Whole.{signed}

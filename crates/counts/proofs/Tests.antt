@@ -4,7 +4,7 @@ use mathlib.Core.Path.{_≡_, refl, sym, ap, _∙_}
 use mathlib.Core.Logic.{_⊎_, inl, inr, ⊎-elim}
 use mathlib.Core.Bool.{Bool, true, false, not, _&&_, false≢true, and-eq-true-iff}
 use native.Mathlib.Omega.{arith}
-use native.Mathlib.Nat.{mul-comm, mul-one, one-mul, mul-assoc, mul-left-comm, mul-right-comm, mul-pos, mul-le-mul-right, lt-of-not-le, le-of-suc-le-suc, add-mul, zero-mul, le-of-lt, pow-succ'}
+use native.Mathlib.Nat.{mul-comm, mul-one, one-mul, mul-assoc, mul-left-comm, mul-right-comm, mul-pos, mul-le-mul-right, add-mul, zero-mul, le-of-lt, pow-succ'}
 use lib.IntN.{ℤ, pos, negsuc}
 use lib.Pow.{pow-pos}
 use lib.Dec.{T, ltb, eqb, leb, ltb→lt}

@@ -1,7 +1,7 @@
 -- Counts that are saturated: from 2^53 = 9,007,199,254,740,992 on, adding 1 to a binary64 number does not count. Definitions only.
 -- A float is a NaN, an infinity with its sign, or ±m·2^e. The last is compared as the fraction ±(m · up e) / down e of whole numbers, so that nothing here rounds.
 use Prim.Native.Nat.{ℕ, _*_, _^_}
-use mathlib.Core.Bool.{Bool, true, false, not, _&&_}
+use mathlib.Core.Bool.{Bool, false, not, _&&_}
 use lib.IntN.{ℤ, pos, negsuc, _+ℤ_}
 use lib.Dec.{ltb, leb}
 use lib.Ieee.{Float, nan, inf, fin, up, down}

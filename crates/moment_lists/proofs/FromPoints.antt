@@ -1,5 +1,5 @@
 -- What a host's `from_points` is refused for: the reasons of its slices alone, since of so few points no push is refused. Assumes nothing.
-use Prim.Native.Nat.{ℕ, _/_, _%_, _≤_}
+use Prim.Native.Nat.{_/_, _%_}
 use mathlib.Core.Path.{_≡_, refl}
 use mathlib.Core.Bool.{Bool, true, false, not, _||_, cond}
 use mathlib.Core.List.{List, [], _∷_}
@@ -8,7 +8,7 @@ use lib.ListN.{length}
 use lib.Dec.{eqb, ltb}
 use lib.Ieee.{Float}
 use borrow.Author.Tests.{ltb-false}
-use Rattle.refusals.specs.Refusal.{_when_, firstOf, wrongLength, either-none}
+use Rattle.refusals.specs.Refusal.{_when_, firstOf, wrongLength}
 use Rattle.point_moments.specs.Moments.{MOMENTS, MOST_POINTS, pointReasons}
 use Rattle.counted_moments.specs.Counted.{pushesReasons}
 use Rattle.counted_moments.proofs.Pushes.{pushes-accepted}

@@ -11,7 +11,8 @@ use Rattle.counts.specs.Saturation.{MOST}
 use Rattle.counts.proofs.Whole.{float-plus}
 use Rattle.point_moments.specs.Moments.{one, withPoint, ofPoints}
 
-one-is : one ≡ floatOf (pos 1)
+-- 1 as a push adds it
+pub one-is : one ≡ floatOf (pos 1)
 unfolding ofInt round ofBits ofFields odd
 one-is = refl
 

@@ -1,0 +1,33 @@
+-- The theorems at sets of 2^53 - 1, 2^53 and 1 points: their hypotheses can be met. Assumes nothing.
+use Prim.Native.Nat.{ℕ, _+_, _-_, _^_}
+use mathlib.Core.Path.{_≡_, refl}
+use mathlib.Core.List.{List, []}
+use native.Mathlib.Omega.{arith}
+use lib.IntN.{pos}
+use lib.Ieee.{Float, binary64, ofInt, round}
+use lib.Ieee.Fits.{ofInt-fits}
+use Rattle.counts.specs.Whole.{floatOf, Whole}
+use Rattle.counts.specs.Saturation.{pushSaturates, mergeSaturates}
+use Rattle.counts.proofs.Whole.{float-whole}
+use Rattle.point_moments.specs.declared.PointMoments.{PointMoments}
+use Rattle.point_moments.specs.Moments.{withPoint, merged}
+use Rattle.counted_moments.specs.Counted.{pushReasons, mergeReasons, pushRefusal}
+use Rattle.counted_moments.proofs.Exact.{push-wrong, merge-exact}
+
+-- a set of n points, whatever they sum to
+abbrev set : ℕ → PointMoments
+set n = record { count = floatOf (pos n); sum = []; outer = [] }
+
+-- one point merged into 2^53 - 1 makes 2^53
+pub merged-full : Whole (merged (set (2 ^ 53 - 1)) (set 1) .count) (pos (2 ^ 53))
+unfolding mergeReasons mergeSaturates ofInt round
+merged-full =
+    merge-exact (set (2 ^ 53 - 1)) (set 1) (pos (2 ^ 53 - 1)) (pos 1) (float-whole (pos (2 ^ 53 - 1)) (omega arith)) (float-whole (pos 1) (omega arith)) tt refl
+
+-- a push into 2^53 is refused by 15, and the count would not be 2^53 + 1
+pub refused-full : (p : List Float) → pushRefusal (set (2 ^ 53)) p ≡ 15
+unfolding pushReasons pushSaturates ofInt round
+refused-full p = refl
+
+pub wrong-full : (p : List Float) → Whole (withPoint (set (2 ^ 53)) p .count) (pos (2 ^ 53 + 1)) → ⊥
+wrong-full p = push-wrong (set (2 ^ 53)) p (2 ^ 53) (ofInt-fits binary64 (pos (2 ^ 53))) (float-whole (pos (2 ^ 53)) (omega arith)) (refused-full p)
