@@ -22,18 +22,18 @@ pub fn from_points(points: &[f64], moments: &mut [f64]) -> u32
     0
 }
 
-// One point more.
+// One point more. The point is read before the moments are looked at, so that the compiler keeps the two tests of lengths apart, which is faster.
 pub fn push(moments: &mut [f64], point: &[f64]) -> u32
     ensures { λ r. ⌜ Pushes (now (moments .entry)) (now (point .entry)) r (now (moments .exit)) ⌝ }
 {
-    if moments.len() != MOMENTS {
-        return 3;
-    }
     if point.len() != 3 {
         return 3;
     }
-    let m = PointMoments::from_list(moments);
     let p = lists::three(point, 0);
+    if moments.len() != MOMENTS {
+        return 3;
+    }
+    let m = PointMoments::from_list(moments);
     let refusal = counted_moments::push_refusal(m, p);
     if refusal != 0 {
         return refusal;
