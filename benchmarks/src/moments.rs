@@ -4,6 +4,7 @@ use crate::harness::{measure_updated, measure_written};
 use maghnelt::{slices, MAX_COUNT, MAX_POINTS, MOMENTS};
 use oracle::draws::{record_of, stored, Pose, Wall};
 use oracle::generator::Generator;
+use std::hint::black_box;
 
 /// Records that a batch goes through.
 const RECORDS: usize = 256;
@@ -54,29 +55,40 @@ fn some_records(generator: &mut Generator) -> Vec<Record> {
         .collect()
 }
 
+/// A call on two slices, as the library's are.
+type Call = fn(&mut [f64], &[f64]) -> u32;
+
 fn measure_push_and_merge(generator: &mut Generator) {
+    // The compiler must not know which lengths the calls are handed, or it drops their tests.
+    let [push_tested, merge_tested] = black_box([plain::push_tested as Call, plain::merge_tested]);
     let points = wall_points(RECORDS, generator);
+    let pushed = with_records(points, generator);
+    let push = |moments: &mut Record, point: &[f64; 3]| {
+        _ = slices::moments_push(moments, point);
+    };
+    measure_updated("moments_push", "one point", &pushed, push, plain::push);
     measure_updated(
         "moments_push",
-        "one point",
-        &with_records(points, generator),
+        "one point, Rust with the same tests",
+        &pushed,
+        push,
         |moments, point| {
-            _ = slices::moments_push(moments, point);
-        },
-        |moments, point| {
-            plain::push(moments, point);
+            push_tested(moments, point);
         },
     );
     let others = some_records(generator);
+    let merged = with_records(others, generator);
+    let merge = |moments: &mut Record, other: &Record| {
+        _ = slices::moments_merge(moments, other);
+    };
+    measure_updated("moments_merge", "two sets", &merged, merge, plain::merge);
     measure_updated(
         "moments_merge",
-        "two sets",
-        &with_records(others, generator),
+        "two sets, Rust with the same tests",
+        &merged,
+        merge,
         |moments, other| {
-            _ = slices::moments_merge(moments, other);
-        },
-        |moments, other| {
-            plain::merge(moments, other);
+            merge_tested(moments, other);
         },
     );
 }
@@ -151,12 +163,8 @@ pub mod plain {
         *out = [count, x, y, z, xx, yx, zx, yx, yy, zy, zx, zy, zz];
     }
 
-    /// False where the count is full, and nothing is added then.
-    #[inline(never)]
-    pub fn push(moments: &mut Record, point: &[f64; 3]) -> bool {
-        if moments[0] >= MAX_COUNT {
-            return false;
-        }
+    #[inline(always)]
+    fn add(moments: &mut Record, point: &[f64; 3]) {
         moments[0] += 1.0;
         for r in 0..3 {
             moments[SUM + r] += point[r];
@@ -166,7 +174,36 @@ pub mod plain {
                 moments[OUTER + 3 * c + r] += point[r] * point[c];
             }
         }
-        true
+    }
+
+    #[inline(never)]
+    pub fn push(moments: &mut Record, point: &[f64; 3]) {
+        add(moments, point);
+    }
+
+    /// Of slices: 3 of their lengths, 15 of a full count, and nothing is added then.
+    #[inline(never)]
+    pub fn push_tested(moments: &mut [f64], point: &[f64]) -> u32 {
+        let (Ok(moments), Ok(point)) = (<&mut Record>::try_from(moments), point.try_into()) else {
+            return 3;
+        };
+        if moments[0] >= MAX_COUNT {
+            return 15;
+        }
+        add(moments, point);
+        0
+    }
+
+    #[inline(always)]
+    fn join(moments: &mut Record, other: &Record) {
+        for (number, other) in moments.iter_mut().zip(other) {
+            *number += other;
+        }
+    }
+
+    #[inline(never)]
+    pub fn merge(moments: &mut Record, other: &Record) {
+        join(moments, other);
     }
 
     /// Whether two counts come to more than one set counts. Where their rounded sum is that number, the larger one's difference to
@@ -181,16 +218,19 @@ pub mod plain {
         sum > MAX_COUNT || low > MAX_COUNT - high
     }
 
-    /// False where the two counts come to too many, and nothing is added then.
+    /// Of slices: 3 of their lengths, 15 of counts that come to too many, and nothing is added then.
     #[inline(never)]
-    pub fn merge(moments: &mut Record, other: &Record) -> bool {
+    pub fn merge_tested(moments: &mut [f64], other: &[f64]) -> u32 {
+        let (Ok(moments), Ok(other)) =
+            (<&mut Record>::try_from(moments), <&Record>::try_from(other))
+        else {
+            return 3;
+        };
         if too_many(moments[0], other[0]) {
-            return false;
+            return 15;
         }
-        for (number, other) in moments.iter_mut().zip(other) {
-            *number += other;
-        }
-        true
+        join(moments, other);
+        0
     }
 
     #[inline(never)]
