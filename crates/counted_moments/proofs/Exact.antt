@@ -1,5 +1,5 @@
--- An accepted push or merge of whole counts is exact: the new count is the sum, where that is not below -2^53. A refused push would have been wrong. Which set is merged into
--- which does not matter. Assumes nothing.
+-- An accepted push or merge of whole counts is exact: the new count is the sum, where that is not below -2^53. A push into a whole count that is refused would have been wrong.
+-- Whether a merge is refused does not depend on which set is merged into which. Assumes nothing.
 use Prim.Native.Nat.{ℕ, _+_}
 use mathlib.Core.Path.{_≡_, refl}
 use mathlib.Core.Bool.{Bool, true, false, cond}

@@ -1,4 +1,4 @@
--- Why a push or a merge of moments is turned away, and which of the pushes of a list is. Definitions only.
+-- Why a push or a merge of moments is turned away, and why the pushes of a list of points are. Definitions only.
 use Prim.Native.Nat.{ℕ, zero, suc}
 use mathlib.Core.List.{List, [], _∷_, _++_}
 use lib.Ieee.{Float}

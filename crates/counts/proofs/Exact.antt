@@ -1,8 +1,8 @@
--- What is accepted is exact, and what is refused is what would not be: of whole counts whose sum is not below -2^53. Below that, numbers are as coarse as above 2^53, and
--- document 02 refuses nothing there. Assumes nothing.
+-- An accepted push or merge of whole counts is exact, where the sum is not below -2^53: there numbers are as coarse as above 2^53, and document 02 refuses nothing. A refused push
+-- would not be exact, and a merge is refused exactly if one of as many pushes would be. Assumes nothing.
 use Prim.Native.Nat.{ℕ, zero, suc, _+_, _-_, _*_, _^_, _≤_, _<_}
 use mathlib.Core.Path.{_≡_, refl, sym, ap, _∙_}
-use mathlib.Core.Bool.{Bool, true, false}
+use mathlib.Core.Bool.{Bool, true, false, _||_}
 use native.Mathlib.Omega.{arith}
 use native.Mathlib.Nat.{mul-one, mul-lt-mul-of-pos-right}
 use lib.IntN.{ℤ, pos, negsuc, natAbs, _+ℤ_}
@@ -11,7 +11,7 @@ use lib.Ieee.{Float, nan, inf, fin, binary64, up, down, add, fits}
 use lib.Ieee.Fits.{add-fits, down-pos}
 use borrow.Author.Tests.{ltb-true, ltb-false, leb-true, leb-false, lt-ltb, le-ltb}
 use Rattle.counts.specs.Whole.{floatOf, Whole, NotBelow}
-use Rattle.counts.specs.Saturation.{MOST, atLeast, above, pushSaturates, mergeSaturates}
+use Rattle.counts.specs.Saturation.{MOST, atLeast, above, pushSaturates, mergeSaturates, somePushSaturates}
 use Rattle.counts.proofs.Whole.{whole-sum, float-whole, signed-size}
 use Rattle.counts.proofs.Laws.{push-whole, merge-whole}
 use Rattle.counts.proofs.Tests.{even}
@@ -70,8 +70,25 @@ push-wrong x n f u h v =
     let b = half-of (add binary64 x (floatOf (pos 1))) (n + 1) (add-fits binary64 x (floatOf (pos 1))) v (omega arith) in
     omega (arith, a .1, b .1)
 
--- ---- merging one point or more is refused exactly if the last of as many pushes is
-pub merge-pushes : (x y u : Float) (n j : ℕ) → Whole x (pos n) → Whole y (pos (suc j)) → Whole u (pos (n + j)) → mergeSaturates x y ≡ pushSaturates u
-merge-pushes x y u n j a b c =
-    let e : n + j + 1 ≡ n + suc j = omega arith in
-    merge-whole x y (pos n) (pos (suc j)) a b ∙ ap (ltb MOST) (sym e) ∙ sym (push-whole u (pos (n + j)) c ∙ one-more (pos (n + j)))
+-- ---- k pushes in a row: as long as none is refused, the counts are n, n + 1 and so on
+some-push : (k n : ℕ) (x : Float) → Whole x (pos n) → n ≤ MOST → somePushSaturates k x ≡ ltb MOST (n + k)
+unfolding somePushSaturates
+some-push zero n x w l = sym (le-ltb MOST (n + 0) (omega arith))
+some-push (suc k) n x w l = go (leb MOST n) refl (λ v h. some-push k (n + 1) (add binary64 x (floatOf (pos 1))) v h)
+  where
+    is : pushSaturates x ≡ leb MOST n
+    is = push-whole x (pos n) w
+
+    next : Float
+    next = add binary64 x (floatOf (pos 1))
+
+    go : (b : Bool) → leb MOST n ≡ b → (Whole next (pos (n + 1)) → n + 1 ≤ MOST → somePushSaturates k next ≡ ltb MOST (n + 1 + k)) → (pushSaturates x || somePushSaturates k next) ≡ ltb MOST (n + suc k)
+    go true p later = let h = leb-true MOST n p in rw (is ∙ p) (sym (lt-ltb MOST (n + suc k) (omega arith)))
+    go false p later =
+        let h = leb-false MOST n p in
+        let e : n + 1 + k ≡ n + suc k = omega arith in
+        rw (is ∙ p) (later (push-exact x (pos n) w tt (is ∙ p)) (omega arith) ∙ ap (ltb MOST) e)
+
+-- merging k points into a set of at most 2^53 is refused exactly if one of k pushes is
+pub merge-pushes : (x y : Float) (n k : ℕ) → Whole x (pos n) → Whole y (pos k) → n ≤ MOST → mergeSaturates x y ≡ somePushSaturates k x
+merge-pushes x y n k u v l = merge-whole x y (pos n) (pos k) u v ∙ sym (some-push k n x u l)

@@ -1,9 +1,9 @@
 -- Laws of saturation for callers: the order of two counts is free, and of whole counts the tests are those of the whole numbers. Assumes nothing.
 use Prim.Native.Nat.{ℕ, _+_, _*_, _<_}
-use mathlib.Core.Path.{_≡_, refl, sym, ap, _∙_}
+use mathlib.Core.Path.{_≡_, refl, sym, _∙_}
 use mathlib.Core.Bool.{Bool, true, false}
 use native.Mathlib.Omega.{arith}
-use native.Mathlib.Nat.{add-mul, mul-comm, mul-one, mul-assoc, mul-pos, mul-le-mul-right, mul-lt-mul-of-pos-right}
+use native.Mathlib.Nat.{add-mul, mul-comm, mul-one, mul-pos, mul-le-mul-right, mul-lt-mul-of-pos-right}
 use lib.IntN.{ℤ, _+ℤ_, +ℤ-comm}
 use lib.Dec.{leb}
 use lib.Ieee.{Float, nan, inf, fin, up, down}
@@ -11,7 +11,7 @@ use lib.Ieee.Fits.{down-pos}
 use borrow.Author.Tests.{leb-true, leb-false, lt-leb, le-leb}
 use Rattle.counts.specs.Whole.{signed, Whole}
 use Rattle.counts.specs.Saturation.{MOST, atLeast, above, pushSaturates, mergeSaturates}
-use Rattle.counts.proofs.Whole.{ltb-scaled}
+use Rattle.counts.proofs.Whole.{ltb-scaled, over-both}
 use Rattle.counts.proofs.Signs.{sumAbove, above-sum, negative-least}
 
 -- ---- the order of two counts
@@ -65,8 +65,5 @@ merge-whole (fin r m e) nan z w u (t, b, k, q) = absurd k
 merge-whole (fin r m e) (inf o) z w u (t, b, k, q) = absurd k
 merge-whole (fin r m e) (fin o n d) z w (s, a, h, p) (t, b, k, q) =
     let c = down e * down d in
-    let g : m * up e * down d ≡ a * c = ap (λ (i : ℕ). i * down d) (sym (mul-one (m * up e)) ∙ h .1) ∙ mul-assoc a (down e) (down d) in
-    let i : n * up d * down e ≡ b * c =
-    ap (λ (j : ℕ). j * down e) (sym (mul-one (n * up d)) ∙ k .1) ∙ mul-assoc b (down d) (down e) ∙ ap (λ (j : ℕ). b * j) (mul-comm (down d) (down e)) in
-    rw (g, i, h .0, k .0, ← p, ← q)
+    rw (over-both m e (down d) a (h .1), over-both n d (down e) b (k .1), mul-comm (down d) (down e), h .0, k .0, ← p, ← q)
     (above-sum s (a * c) t (b * c) (MOST * c) ∙ above-scaled s a t b MOST c (mul-pos (down-pos e) (down-pos d)) ∙ sym (above-sum s a t b MOST))

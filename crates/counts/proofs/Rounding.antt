@@ -14,7 +14,7 @@ use Rattle.counts.specs.Saturation.{MOST}
 use Rattle.counts.proofs.Signs.{sumAbove}
 
 -- 2^53, and the next float
-abbrev pub most : Float
+abbrev most : Float
 most = fin false 1 (pos 53)
 
 abbrev next : Float
@@ -72,13 +72,13 @@ from-next (fin true m e) h = absurd (not-negative ((2 ^ 52 + 1) * 2 ^ 1 * down e
 from-next (fin false m e) h =
     lt-ltb (1 * 2 ^ 53 * down e) (m * up e * 1) (omega (arith, down-pos e, le-says ((2 ^ 52 + 1) * 2 ^ 1 * down e) (m * up e * 1) h))
 
-pub stays : (n c : ℕ) → 0 < c → n ≤ MOST * c → lt most (round binary64 false n c) ≡ false
+stays : (n c : ℕ) → 0 < c → n ≤ MOST * c → lt most (round binary64 false n c) ≡ false
 stays n c C h = at-most (round binary64 false n c) (subst (λ (z : Float). T (le (round binary64 false n c) z)) most-rounds (round-mono binary64 n c MOST 1 C (omega arith) (omega arith)))
 
-pub goes : (n c : ℕ) → 0 < c → (MOST + 2) * c ≤ n → lt most (round binary64 false n c) ≡ true
+goes : (n c : ℕ) → 0 < c → (MOST + 2) * c ≤ n → lt most (round binary64 false n c) ≡ true
 goes n c C h = from-next (round binary64 false n c) (subst (λ (z : Float). T (le z (round binary64 false n c))) next-rounds (round-mono binary64 (MOST + 2) 1 n c (omega arith) C (omega arith)))
 
-pub reaches : (n c : ℕ) → 0 < c → MOST * c ≤ n → lt (round binary64 false n c) most ≡ false
+reaches : (n c : ℕ) → 0 < c → MOST * c ≤ n → lt (round binary64 false n c) most ≡ false
 reaches n c C h = at-least (round binary64 false n c) (subst (λ (z : Float). T (le z (round binary64 false n c))) most-rounds (round-mono binary64 MOST 1 n c (omega arith) C (omega arith)))
 
 -- nothing negative is above it
@@ -95,7 +95,7 @@ negative-units q k = go (ltb (q * 2 ^ k) (2 ^ (low binary64 + suc (emax binary64
     go true = negative-odd (suc (prec binary64)) q k (low binary64)
     go false = unfold lt in refl
 
-pub negative : (n c : ℕ) → lt most (round binary64 true n c) ≡ false
+negative : (n c : ℕ) → lt most (round binary64 true n c) ≡ false
 negative n c = rw (round-is binary64 true n c) (negative-units _ _)
 
 -- ---- a sum: between 2^53 and 2^53 + 2 there is nothing

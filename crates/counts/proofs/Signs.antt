@@ -9,7 +9,7 @@ use lib.Dec.{ltb}
 use borrow.Author.Tests.{ltb-true, ltb-false, lt-ltb, le-ltb, lt-leb}
 use Rattle.counts.specs.Whole.{signed}
 use Rattle.counts.specs.Saturation.{atLeast, above}
-use Rattle.counts.proofs.Whole.{minus-down, minus-up}
+use Rattle.counts.proofs.Whole.{difference-down, difference-up}
 
 -- ±a + ±b > l, in natural numbers
 abbrev pub sumAbove : Bool → ℕ → Bool → ℕ → ℕ → Bool
@@ -19,7 +19,7 @@ sumAbove true a false b l = ltb (a + l) b
 sumAbove true a true b l = false
 
 -- nothing negative is above a bound, nor at one above 0
-pub negative-above : (l n : ℕ) → above l (negℤ (pos n)) ≡ false
+negative-above : (l n : ℕ) → above l (negℤ (pos n)) ≡ false
 negative-above l zero = le-ltb l 0 (omega arith)
 negative-above l (suc n) = refl
 
@@ -39,8 +39,8 @@ minus-above : (l a b : ℕ) → above l (pos a +ℤ negℤ (pos b)) ≡ ltb (b +
 minus-above l a b = go (ltb a b) refl
   where
     go : (t : Bool) → ltb a b ≡ t → above l (pos a +ℤ negℤ (pos b)) ≡ ltb (b + l) a
-    go true p = let k = ltb-true a b p in rw (minus-up a b p) (negative-above l (b - a) ∙ sym (le-ltb (b + l) a (omega arith)))
-    go false p = let k = ltb-false a b p in rw (minus-down a b p) (test-same l (a - b) (b + l) a (λ q. omega arith) (λ q. omega arith))
+    go true p = let k = ltb-true a b p in rw (difference-up a b p) (negative-above l (b - a) ∙ sym (le-ltb (b + l) a (omega arith)))
+    go false p = let k = ltb-false a b p in rw (difference-down a b p) (test-same l (a - b) (b + l) a (λ q. omega arith) (λ q. omega arith))
 
 pub above-sum : (s : Bool) (a : ℕ) (t : Bool) (b l : ℕ) → above l (signed s a +ℤ signed t b) ≡ sumAbove s a t b l
 above-sum false a false b l = refl

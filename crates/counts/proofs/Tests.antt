@@ -181,7 +181,7 @@ far-says m e h =
     ⊎-elim (λ p. inl (leb-false (2 ^ 52 * down e) (m * up e) p)) (λ p. inr (leb-false (m * up e) (2 ^ 54 * down e) p))
     (either (leb (2 ^ 52 * down e) (m * up e)) (leb (m * up e) (2 ^ 54 * down e)) (sym (near-fin m e) ∙ h))
 
--- M / E and N / D are two sizes, a = M D and b = N E over c = E D. Neither is from 2^52 to 2^54.
+-- m / e and n / d are two sizes, m · d and n · e over e · d. Neither is from 2^52 to 2^54.
 abbrev Far : ℕ → ℕ → Type 0
 Far m e = (m < 2 ^ 52 * e) ⊎ (2 ^ 54 * e < m)
 

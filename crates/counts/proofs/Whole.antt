@@ -21,18 +21,18 @@ signed-size true zero = refl
 signed-size true (suc n) = refl
 
 -- a - b, by which is the greater
-pub minus-is : (a b : ℕ) → pos a +ℤ negℤ (pos b) ≡ subℕ a b
-minus-is a zero = rw (le-ltb a 0 (omega arith)) (ap pos (omega arith))
-minus-is a (suc b) = refl
+difference : (a b : ℕ) → pos a +ℤ negℤ (pos b) ≡ subℕ a b
+difference a zero = rw (le-ltb a 0 (omega arith)) (ap pos (omega arith))
+difference a (suc b) = refl
 
-pub minus-down : (a b : ℕ) → ltb a b ≡ false → pos a +ℤ negℤ (pos b) ≡ pos (a - b)
-minus-down a b h = minus-is a b ∙ rw h
+pub difference-down : (a b : ℕ) → ltb a b ≡ false → pos a +ℤ negℤ (pos b) ≡ pos (a - b)
+difference-down a b h = difference a b ∙ rw h
 
-pub minus-up : (a b : ℕ) → ltb a b ≡ true → pos a +ℤ negℤ (pos b) ≡ negℤ (pos (b - a))
-minus-up a b h =
+pub difference-up : (a b : ℕ) → ltb a b ≡ true → pos a +ℤ negℤ (pos b) ≡ negℤ (pos (b - a))
+difference-up a b h =
     let l : a < b = ltb-true a b h in
     let e : b - a ≡ suc (b - suc a) = omega arith in
-    minus-is a b ∙ rw (h, e)
+    difference a b ∙ rw (h, e)
 
 -- ---- a common factor of both sides may go
 pub ltb-scaled : (a b k : ℕ) → 0 < k → ltb (a * k) (b * k) ≡ ltb a b
@@ -63,6 +63,11 @@ sum-reduced f s a t b c C =
     )
 
 -- ---- the sum of two whole numbers, rounded once
+
+-- m · 2^e is the whole number a: over a further denominator c
+pub over-both : (m : ℕ) (e : ℤ) (c a : ℕ) → m * up e * 1 ≡ a * down e → m * up e * c ≡ a * (down e * c)
+over-both m e c a h = ap (λ (z : ℕ). z * c) (sym (mul-one (m * up e)) ∙ h) ∙ mul-assoc a (down e) c
+
 add-values : (f : Format) (x y : Float) (s : Bool) (a : ℕ) (t : Bool) (b : ℕ) → HasValue x s a 1 → HasValue y t b 1 → add f x y ≡ sum f s a t b 1
 unfolding add
 add-values f nan y s a t b h k = absurd h
@@ -76,36 +81,36 @@ add-values f (fin r m e) (fin u n d) s a t b h k =
     ap (λ (z : ℕ). z * down e) (sym (mul-one (n * up d)) ∙ k .1) ∙ mul-assoc b (down d) (down e) ∙ ap (λ (z : ℕ). b * z) (mul-comm (down d) (down e)) in
     rw (p, q, h .0, k .0) (sum-reduced f s a t b c (mul-pos (down-pos e) (down-pos d)))
 
--- it is the exact sum r k, rounded
+-- x is the whole number z, rounded once
 record Rounded (f : Format) (x : Float) (z : ℤ) : Type 0 where
   sign : Bool
   size : ℕ
   is : x ≡ round f sign size 1
   exact : signed sign size ≡ z
 
-rounded : (f : Format) (s : Bool) (a : ℕ) (t : Bool) (b : ℕ) → Rounded f (sum f s a t b 1) (signed s a +ℤ signed t b)
+sum-rounded : (f : Format) (s : Bool) (a : ℕ) (t : Bool) (b : ℕ) → Rounded f (sum f s a t b 1) (signed s a +ℤ signed t b)
 unfolding sum
-rounded f false a false b = record { sign = false; size = a + b; is = refl; exact = refl }
-rounded f true a true b = record { sign = true; size = a + b; is = refl; exact = negℤ-+ℤ (pos a) (pos b) }
-rounded f false a true b = go (ltb a b) refl
+sum-rounded f false a false b = record { sign = false; size = a + b; is = refl; exact = refl }
+sum-rounded f true a true b = record { sign = true; size = a + b; is = refl; exact = negℤ-+ℤ (pos a) (pos b) }
+sum-rounded f false a true b = go (ltb a b) refl
   where
     go : (l : Bool) → ltb a b ≡ l → Rounded f (cond l (round f true (b - a) 1) (round f false (a - b) 1)) (pos a +ℤ negℤ (pos b))
-    go true p = record { sign = true; size = b - a; is = refl; exact = sym (minus-up a b p) }
-    go false p = record { sign = false; size = a - b; is = refl; exact = sym (minus-down a b p) }
-rounded f true a false b = subst (Rounded f (sum f true a false b 1)) (+ℤ-comm (pos b) (negℤ (pos a))) (go (ltb a b) (ltb b a) refl refl)
+    go true p = record { sign = true; size = b - a; is = refl; exact = sym (difference-up a b p) }
+    go false p = record { sign = false; size = a - b; is = refl; exact = sym (difference-down a b p) }
+sum-rounded f true a false b = subst (Rounded f (sum f true a false b 1)) (+ℤ-comm (pos b) (negℤ (pos a))) (go (ltb a b) (ltb b a) refl refl)
   where
     go : (l r : Bool) → ltb a b ≡ l → ltb b a ≡ r → Rounded f (cond l (round f false (b - a) 1) (round f (true && r) (a - b) 1)) (pos b +ℤ negℤ (pos a))
     go true true p q = let x = ltb-true a b p in let y = ltb-true b a q in absurd (omega arith)
-    go true false p q = record { sign = false; size = b - a; is = refl; exact = sym (minus-down b a q) }
-    go false true p q = record { sign = true; size = a - b; is = refl; exact = sym (minus-up b a q) }
+    go true false p q = record { sign = false; size = b - a; is = refl; exact = sym (difference-down b a q) }
+    go false true p q = record { sign = true; size = a - b; is = refl; exact = sym (difference-up b a q) }
     go false false p q =
         let e : a - b ≡ b - a = omega (arith, ltb-false a b p, ltb-false b a q) in
-        record { sign = false; size = a - b; is = refl; exact = rw e (sym (minus-down b a q)) }
+        record { sign = false; size = a - b; is = refl; exact = rw e (sym (difference-down b a q)) }
 
 -- ---- exact where the sum is at most 2^53 in size
 pub whole-sum : (x y : Float) (z w : ℤ) → Whole x z → Whole y w → natAbs (z +ℤ w) ≤ 2 ^ 53 → Whole (add binary64 x y) (z +ℤ w)
 whole-sum x y z w (s, a, h, p) (t, b, k, q) l =
-    let r = rounded binary64 s a t b in
+    let r = sum-rounded binary64 s a t b in
     let e : signed (r .sign) (r .size) ≡ z +ℤ w = r .exact ∙ rw (p, q) in
     let small : r .size ≤ 2 ^ 53 = rw (← signed-size (r .sign) (r .size), e) l in
     (r .sign, r .size, rw (add-values binary64 x y s a t b h k ∙ r .is) (round-whole binary64 (r .sign) (r .size) small), e)

@@ -4,12 +4,12 @@ use mathlib.Core.Path.{_≡_, refl}
 use mathlib.Core.Bool.{Bool, true, false}
 use mathlib.Core.List.{List, [], _∷_, map}
 use native.Mathlib.Omega.{arith}
-use lib.IntN.{ℤ, pos}
+use lib.IntN.{ℤ, pos, negsuc, negℤ}
 use lib.Ieee.{binary64, ofBits, toBits, add, ofInt, round}
 use Rattle.counts.specs.Whole.{floatOf, Whole}
-use Rattle.counts.specs.Saturation.{pushSaturates, mergeSaturates}
+use Rattle.counts.specs.Saturation.{pushSaturates, mergeSaturates, somePushSaturates}
 use Rattle.counts.proofs.Whole.{float-whole}
-use Rattle.counts.proofs.Exact.{push-exact}
+use Rattle.counts.proofs.Exact.{push-exact, merge-exact, merge-pushes}
 
 -- two counts, and whether their merge is refused
 pub record Case : Type 0 where
@@ -54,6 +54,8 @@ mergeCases =
     case 0x4330_0000_0000_0000 0x4330_0000_0000_0000 false ∷
     -- 2^54, -2^53
     case 0x4350_0000_0000_0000 0xc340_0000_0000_0000 false ∷
+    -- 2^54, -2^53 + 1
+    case 0x4350_0000_0000_0000 0xc33f_ffff_ffff_ffff true ∷
     -- 2^54 + 4, -2^53
     case 0x4350_0000_0000_0001 0xc340_0000_0000_0000 true ∷
     -- 2^107, -2^107 + 2^54
@@ -100,10 +102,25 @@ pub is-wrong : toBits binary64 (add binary64 (ofBits binary64 0x4340_0000_0000_0
 unfolding toBits ofBits add
 is-wrong = refl
 
--- 2^53 and 2: refused, as the document has it, though 2^53 + 2 is a binary64 number
-pub not-wrong : mergeSaturates (ofBits binary64 0x4340_0000_0000_0000) (ofBits binary64 0x4000_0000_0000_0000) ≡ true
+-- 2^53 and 2: refused, as the document has it, though the new count would be 2^53 + 2
+pub refused-though-exact : mergeSaturates (ofBits binary64 0x4340_0000_0000_0000) (ofBits binary64 0x4000_0000_0000_0000) ≡ true
 unfolding mergeSaturates ofBits
-not-wrong = refl
+refused-though-exact = refl
+
+pub would-be-exact : toBits binary64 (add binary64 (ofBits binary64 0x4340_0000_0000_0000) (ofBits binary64 0x4000_0000_0000_0000)) ≡ 0x4340_0000_0000_0001
+unfolding toBits ofBits add
+would-be-exact = refl
+
+-- three points merged into 2^53 - 2: the third of three pushes would be refused, and so is the merge
+pub third-push : mergeSaturates (floatOf (pos (2 ^ 53 - 2))) (floatOf (pos 3)) ≡ somePushSaturates 3 (floatOf (pos (2 ^ 53 - 2)))
+third-push =
+    merge-pushes (floatOf (pos (2 ^ 53 - 2))) (floatOf (pos 3)) (2 ^ 53 - 2) 3 (float-whole (pos (2 ^ 53 - 2)) (omega arith)) (float-whole (pos 3) (omega arith)) (omega arith)
+
+-- -(2^53 - 1) and -1: accepted, and the new count is -2^53
+pub negative : Whole (add binary64 (floatOf (negℤ almost)) (floatOf (negsuc 0))) (negℤ (pos (2 ^ 53)))
+unfolding mergeSaturates ofInt round
+negative =
+    merge-exact (floatOf (negℤ almost)) (floatOf (negsuc 0)) (negℤ almost) (negsuc 0) (float-whole (negℤ almost) (omega arith)) (float-whole (negsuc 0) (omega arith)) (omega arith) refl
 
 -- -2^53 and -1: accepted, as the document has it, and the count stands still. So the theorems ask for a sum that is not below -2^53.
 pub far-below : mergeSaturates (ofBits binary64 0xc340_0000_0000_0000) (ofBits binary64 0xbff0_0000_0000_0000) ≡ false

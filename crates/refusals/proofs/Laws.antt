@@ -9,7 +9,7 @@ use lib.Ieee.Fits.{and-l, and-r}
 use Rattle.refusals.specs.Refusal.{Reason, firstOf, kept}
 
 -- a number is not 0, and none of a list's is
-abbrev some : ℕ → Bool
+abbrev pub some : ℕ → Bool
 some zero = false
 some (suc k) = true
 
