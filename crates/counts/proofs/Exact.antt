@@ -11,7 +11,8 @@ use lib.Ieee.{Float, nan, inf, fin, binary64, up, down, add, fits}
 use lib.Ieee.Fits.{add-fits, down-pos}
 use borrow.Author.Tests.{ltb-true, ltb-false, leb-true, leb-false, lt-ltb, le-ltb}
 use Rattle.counts.specs.Whole.{floatOf, Whole, NotBelow}
-use Rattle.counts.specs.Saturation.{MOST, atLeast, above, pushSaturates, mergeSaturates, somePushSaturates}
+use Rattle.counts.specs.Saturation.{MOST, atLeast, above, pushSaturates, mergeSaturates}
+use Rattle.counts.specs.Pushes.{somePushSaturates}
 use Rattle.counts.proofs.Whole.{whole-sum, float-whole, signed-size}
 use Rattle.counts.proofs.Laws.{push-whole, merge-whole}
 use Rattle.counts.proofs.Tests.{even}

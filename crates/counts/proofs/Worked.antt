@@ -7,7 +7,8 @@ use native.Mathlib.Omega.{arith}
 use lib.IntN.{ℤ, pos, negsuc, negℤ}
 use lib.Ieee.{binary64, ofBits, toBits, add, ofInt, round}
 use Rattle.counts.specs.Whole.{floatOf, Whole}
-use Rattle.counts.specs.Saturation.{pushSaturates, mergeSaturates, somePushSaturates}
+use Rattle.counts.specs.Saturation.{pushSaturates, mergeSaturates}
+use Rattle.counts.specs.Pushes.{somePushSaturates}
 use Rattle.counts.proofs.Whole.{float-whole}
 use Rattle.counts.proofs.Exact.{push-exact, merge-exact, merge-pushes}
 

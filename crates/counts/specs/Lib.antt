@@ -1,3 +1,4 @@
 pub mod Whole
 pub mod Saturation
+pub mod Pushes
 pub mod Near

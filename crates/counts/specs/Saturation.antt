@@ -1,11 +1,11 @@
 -- Counts that are saturated: from 2^53 = 9,007,199,254,740,992 on, a whole number of binary64 with 1 added and rounded is not one more. Definitions only.
 -- A float is a NaN, an infinity with its sign, or ±m·2^e. The last is compared as the fraction ±(m · up e) / down e of whole numbers, so that nothing here rounds.
-use Prim.Native.Nat.{ℕ, zero, suc, _*_, _^_}
-use mathlib.Core.Bool.{Bool, false, not, _&&_, _||_}
+use Prim.Native.Nat.{ℕ, _*_, _^_}
+use mathlib.Core.Bool.{Bool, false, not, _&&_}
 use lib.IntN.{ℤ, pos, negsuc, _+ℤ_}
 use lib.Dec.{ltb, leb}
-use lib.Ieee.{Float, nan, inf, fin, binary64, up, down, add}
-use Rattle.counts.specs.Whole.{signed, floatOf}
+use lib.Ieee.{Float, nan, inf, fin, up, down}
+use Rattle.counts.specs.Whole.{signed}
 
 -- the largest count
 abbrev pub MOST : ℕ
@@ -37,8 +37,3 @@ mergeSaturates (fin s m e) nan = false
 mergeSaturates (fin s m e) (inf t) = not t
 mergeSaturates (fin s m e) (fin t n d) =
     above (MOST * (down e * down d)) (signed s (m * up e * down d) +ℤ signed t (n * up d * down e))
-
--- some push of k in a row is refused, each adding 1 to the count
-unfoldable pub somePushSaturates : ℕ → Float → Bool
-somePushSaturates zero x = false
-somePushSaturates (suc k) x = pushSaturates x || somePushSaturates k (add binary64 x (floatOf (pos 1)))
