@@ -8,6 +8,7 @@ use native.Mathlib.Omega.{arith}
 use lib.IntN.{ℤ, pos, _+ℤ_}
 use lib.Dec.{T}
 use lib.Ieee.{Float, binary64, fits}
+use Rattle.refusals.specs.Refusal.{none}
 use Rattle.counts.specs.Whole.{Whole, NotBelow}
 use Rattle.counts.specs.Saturation.{pushSaturates, mergeSaturates}
 use Rattle.counts.proofs.Laws.{merge-comm}
@@ -17,18 +18,14 @@ use Rattle.point_moments.specs.Moments.{withPoint, merged}
 use Rattle.point_moments.proofs.Counts.{one-is}
 use Rattle.counted_moments.specs.Counted.{pushReasons, mergeReasons, pushRefusal, mergeRefusal}
 
--- the one reason does not apply, or it does
-free : (b : Bool) → _≡_ {A = ℕ} (cond b 15 0) 0 → b ≡ false
-free true h = absurd (omega arith)
-free false h = refl
-
+-- the one reason applies
 full : (b : Bool) → _≡_ {A = ℕ} (cond b 15 0) 15 → b ≡ true
 full true h = refl
 full false h = absurd (omega arith)
 
 pub push-exact : (m : PointMoments) (p : List Float) (z : ℤ) → Whole (m .count) z → NotBelow (z +ℤ pos 1) → pushRefusal m p ≡ 0 → Whole (withPoint m p .count) (z +ℤ pos 1)
 unfolding pushReasons withPoint
-push-exact m p z w l h = rw one-is (Exact.push-exact (m .count) z w l (free (pushSaturates (m .count)) h))
+push-exact m p z w l h = rw one-is (Exact.push-exact (m .count) z w l (none (pushSaturates (m .count)) 14 0 h .0))
 
 pub push-wrong : (m : PointMoments) (p : List Float) (n : ℕ) → T (fits binary64 (m .count)) → Whole (m .count) (pos n) → pushRefusal m p ≡ 15 → Whole (withPoint m p .count) (pos (n + 1)) → ⊥
 unfolding pushReasons withPoint
@@ -36,7 +33,7 @@ push-wrong m p n f w h v = Exact.push-wrong (m .count) n f w (full (pushSaturate
 
 pub merge-exact : (m o : PointMoments) (z w : ℤ) → Whole (m .count) z → Whole (o .count) w → NotBelow (z +ℤ w) → mergeRefusal m o ≡ 0 → Whole (merged m o .count) (z +ℤ w)
 unfolding mergeReasons merged
-merge-exact m o z w u v l h = Exact.merge-exact (m .count) (o .count) z w u v l (free (mergeSaturates (m .count) (o .count)) h)
+merge-exact m o z w u v l h = Exact.merge-exact (m .count) (o .count) z w u v l (none (mergeSaturates (m .count) (o .count)) 14 0 h .0)
 
 pub either-way : (m o : PointMoments) → mergeRefusal m o ≡ mergeRefusal o m
 unfolding mergeReasons

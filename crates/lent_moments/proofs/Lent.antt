@@ -171,14 +171,9 @@ module _ (S : RattleType) (τ : Ty) (val : S .Denot → Val) (F : PointMoments �
       abbrev to : Callee 𝓤 H A .Ghost
       to = ((tt, tt, tt, (h, (x, tt)), (vals-of h, rest)), tt)
 
+      -- both ask for the record and the argument
       goes : ent 𝓤 (sem 𝓤 H A (R .own h (vals-of h))) (Callee 𝓤 H A .pre to)
       goes =
-          qed W (‵ (R .own h (vals-of h)) ∷ []) ∵ nothing ! $
-          owned ! S (Is S) makes x (val x ∷ []) k $ fjoin ! $
-          move ! (1 ∷ 0 ∷ []) $ fjoin ! $ nothing ! $ join ! $ frame ! $ done !
-
-      asks : ent 𝓤 (sem 𝓤 H A (R .own h (vals-of h))) (Answers 𝓤 H A .pre to)
-      asks =
           qed W (‵ (R .own h (vals-of h)) ∷ []) ∵ nothing ! $
           owned ! S (Is S) makes x (val x ∷ []) k $ fjoin ! $
           move ! (1 ∷ 0 ∷ []) $ fjoin ! $ nothing ! $ join ! $ frame ! $ done !
@@ -207,7 +202,7 @@ module _ (S : RattleType) (τ : Ty) (val : S .Denot → Val) (F : PointMoments �
             -- [the record's cell; what it owns; the open borrow; obs; auth; true; the argument's; _6; …; _5; …; _4; …; _3; …; _2; …; _1; …; room for _0; …]
             assigns ! (of-opd ! (load ! (from ! (hop ! (look ! 17 refl) (stop !))) (look-raw ! 0 refl))) (from ! (stop !)) (init ! 13 refl (LL.lawful P.the-type P′.the-laws 𝓤 H A W .typed h _ was .0)) $
             -- the call that answers the number
-            move ! (1 ∷ []) $ use1 W (raw (Answers 𝓤 H A .pre to)) asks $
+            move ! (1 ∷ []) $ use1 W (raw (Answers 𝓤 H A .pre to)) goes $
             calls-at ! fm (Answers 𝓤 H A) sure to (and-then ! (load ! (from ! (stop !)) (look ! 13 refl)) (and-then ! (load ! (from ! (stop !)) (look ! 15 refl)) (no-more !))) (λ z.
             use1 W (later (some (λ (n : ℕ). (‵ ftrue ⊛ ‵ (u32 .own n (z ∷ []))) ⊛ raw (ensured 𝓤 H A answering (answers 𝓤) tt (h, (x, tt)) tt n)))) (id⊢ 𝓤 _) $ await ! tt $ pick ! (λ n.
             split ! $ move ! (1 ∷ []) $ use1 W (raw (fact 𝓤 (n ≡ G h x))) (told n) $ heard ! (n ≡ G h x) (λ d. split ! $ drop ! $
