@@ -21,6 +21,7 @@ unlike_comm false false = refl
 
 -- one more term
 pub sum_to_more : (n : ℕ) (f : ℕ → Float) → 0 < n → sum_to (n + 1) f ≡ sum_to n f ⊕ f n
+sum_to_more zero f h = elim h [ ]
 sum_to_more (suc n) f h = rw add-one
 
 -- sums of equal terms
