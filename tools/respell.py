@@ -27,6 +27,8 @@ WORDS = set(
     "le lt eq not and or cond true false leb ltb eqb round sqrt pow abs".split()
 )
 OTHERS = {"getD": "get_or"}
+# In a comment these are IEEE 754's own names.
+STANDARD = {"squareRoot", "totalOrder"}
 # Parameters of definitions.
 BOUND = {"outFixed": "out_fixed", "outFrames": "out_frames", "segmentsIn": "segments_in"}
 # Lemmas that port.py had spelled as a definition of their crate is spelled now.
@@ -51,7 +53,7 @@ def snake(word):
         return OTHERS[word]
     if not re.match(r"[a-z]", word):
         return word
-    return re.sub(r"(?<=[a-z0-9])([A-Z])|(?<=[A-Z])([A-Z])(?=[A-Z]|$)", lambda m: "_" + m.group(0).lower(), word).lower()
+    return re.sub(r"(?<!^)(?=[A-Z])", "_", word).lower()
 
 
 def respelled(name, words):
@@ -114,6 +116,8 @@ def turn(text, table, fields, antt):
         if name not in table or name in kept:
             return name
         before = text[: m.start()]
+        if name in STANDARD and re.match(r"\s*(--|//)", before.rsplit("\n", 1)[-1]):
+            return name
         if before.endswith("."):
             owner = re.search(r"([^\s(){}.;,\[\]]+)\.$", before)
             is_module = owner and (owner.group(1)[0].isupper() or owner.group(1) in named)

@@ -22,7 +22,7 @@ ghost use Rattle.map_planes.specs.Accumulate.{matches_call, transformed_matches_
 ghost use Rattle.map_planes.specs.Linearize.{Linearized};
 ghost use Rattle.map_plane.specs.Linearize.{Linearized as OneLinearized};
 
-// IEEE 754's square_root.
+// IEEE 754's squareRoot.
 #[unsafe(no_mangle)]
 pub extern "C" fn maghnelt_sqrt(x: f64) -> f64
     ensures { result ≡ square_root x }
@@ -30,7 +30,7 @@ pub extern "C" fn maghnelt_sqrt(x: f64) -> f64
     square_root::sqrt(x)
 }
 
-// The key of a bit pattern: signed comparison of keys is IEEE 754's total_order.
+// The key of a bit pattern: signed comparison of keys is IEEE 754's totalOrder.
 #[unsafe(no_mangle)]
 pub extern "C" fn maghnelt_total_order_key(bits: u64) -> i64
     ensures { result ≡ key_of bits }
@@ -135,7 +135,7 @@ pub extern "C" fn maghnelt_point_to_plane_sigma(
     d_world_d_point: &[f64],
     sigma: &mut f64,
 ) -> u32
-    ensures { SigmaAnswered (record { plane = plane.entry.now; centroid = centroid.now; plane_covariance = plane_covariance.now; point_covariance = point_covariance.now; world = world.now; d_world_dpoint = d_world_d_point.now }) result sigma.old sigma.new }
+    ensures { SigmaAnswered (record { plane = plane.entry.now; centroid = centroid.now; plane_covariance = plane_covariance.now; point_covariance = point_covariance.now; world = world.now; d_world_d_point = d_world_d_point.now }) result sigma.old sigma.new }
 {
     plane_lists::point_to_plane_sigma(
         plane,

@@ -36,7 +36,7 @@ pub record Inputs : Type 0 where
   pub plane_covariance : List Float
   pub point_covariance : List Float
   pub world : List Float
-  pub d_world_dpoint : List Float
+  pub d_world_d_point : List Float
 
 abbrev pub lengths : Inputs → List (ℕ × ℕ)
 lengths x =
@@ -45,12 +45,12 @@ lengths x =
     ∷ (length x.plane_covariance, 36)
     ∷ (length x.point_covariance, 9)
     ∷ (length x.world, 3)
-    ∷ (length x.d_world_dpoint, 9)
+    ∷ (length x.d_world_d_point, 9)
     ∷ []
 
 abbrev pub variance_of : Inputs → Float
 variance_of x =
-    variance (plane_of x.plane).normal x.centroid x.plane_covariance x.point_covariance x.world x.d_world_dpoint
+    variance (plane_of x.plane).normal x.centroid x.plane_covariance x.point_covariance x.world x.d_world_d_point
 
 unfoldable pub sigma_refusal : Inputs → ℕ
 sigma_refusal x = first_of (3 when wrong_length (lengths x) ∷ variance_reasons (variance_of x))

@@ -11,7 +11,7 @@ use Rattle.square_root.proofs.Patterns as P
 module _ (x : Float) (held : T (fits binary64 x)) where
   -- a NaN, as it is
   pub nan_is : ne x x ≡ true → x ≡ square_root x
-  nan_is e = square_root_only x x held (subst (λ (y : Float). IsSquareRoot binary64 y y) (sym (P.is_nan x e)) P.at-nan)
+  nan_is e = square_root_only x x held (subst (λ (y : Float). IsSquareRoot binary64 y y) (sym (P.is_nan_lem x e)) P.at-nan)
 
   -- what is finite and above zero, by its pattern
   pub bits_is : (r : ℕ) → 0 < to_bits binary64 x → to_bits binary64 x < 0x7ff0_0000_0000_0000 → RootBits (units_of (to_bits binary64 x) * 2 ^ 1074) r → of_bits binary64 r ≡ square_root x

@@ -212,8 +212,8 @@ below_zero x h l n =
     by_sign x h n (ap sign (sym (of_bits-to_bits binary64 x h) ∙ sign_set b l) ∙ sign_fields (b % 2 ^ 63 / 2 ^ 52) (b % 2 ^ 52))
 
 -- ---- a NaN, and no NaN
-pub is_nan : (x : Float) → ne x x ≡ true → x ≡ nan
-is_nan x h = differs_from_itself x (subst T (sym h) tt)
+pub is_nan_lem : (x : Float) → ne x x ≡ true → x ≡ nan
+is_nan_lem x h = differs_from_itself x (subst T (sym h) tt)
 
 pub is_no_nan : (x : Float) → ne x x ≡ false → T (not (is_nan x))
 unfolding is_nan

@@ -133,7 +133,7 @@ fn sqrt_bits(b: u64) -> u64
     }
 }
 
-// IEEE 754's square_root: -0 for -0, a NaN for a NaN and for what is below zero, and otherwise the value nearest to the root.
+// IEEE 754's squareRoot: -0 for -0, a NaN for a NaN and for what is below zero, and otherwise the value nearest to the root.
 // Two values are never equally near (`no_tie` of proofs/Laws.antt): their mean would be a root of one binary digit more than they have,
 // and the square of such a number has too many digits to be x. So the rule for ties, to the even value, has nothing to decide.
 pub fn sqrt(x: f64) -> f64

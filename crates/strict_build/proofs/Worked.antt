@@ -49,8 +49,8 @@ minus_three = 0xc008_0000_0000_0000
 abbrev minus_infinity : ℕ
 minus_infinity = 0xfff0_0000_0000_0000
 
-abbrev not_anumber : ℕ
-not_anumber = 0x7ff8_0000_0000_0000
+abbrev not_a_number : ℕ
+not_a_number = 0x7ff8_0000_0000_0000
 
 -- a set of so many points at the origin, by the count's pattern
 abbrev set : ℕ → List Float
@@ -72,7 +72,7 @@ both dof frame fixed = (strict dof frame fixed, old dof frame fixed)
 unfoldable pub cases : List (ℕ × ℕ)
 cases =
     both 6 five minus_one ∷ both 6 five minus_three ∷ both 6 minus_one minus_one ∷ both 10 five minus_one ∷ both 6 five 0 ∷ both 6 five minus_zero ∷
-    both 6 two half ∷ both 6 two minus_zero ∷ both 6 two one ∷ both 6 five minus_infinity ∷ both 6 five not_anumber ∷ []
+    both 6 two half ∷ both 6 two minus_zero ∷ both 6 two one ∷ both 6 five minus_infinity ∷ both 6 five not_a_number ∷ []
 
 pub cases_are : cases ≡ (13, 0) ∷ (13, 5) ∷ (13, 4) ∷ (1, 1) ∷ (0, 0) ∷ (0, 0) ∷ (5, 5) ∷ (5, 5) ∷ (0, 0) ∷ (13, 5) ∷ (6, 6) ∷ []
 unfolding cases to_bits of_bits add lt le somewhere all_finite finite_above record_of bad_records bad_count fixed_count count_at count_sum dropped empty_at some_empty too_few not_finite points bad_shapes build_refusal negative kept_total too_few_kept strict_refusal

@@ -1,4 +1,4 @@
--- Signed comparison of keys is IEEE 754's total_order, for all 2 ^ 64 patterns. Assumes nothing.
+-- Signed comparison of keys is IEEE 754's totalOrder, for all 2 ^ 64 patterns. Assumes nothing.
 -- Two numbers are compared in units of the least positive one, 2 ^ -1074, in which a size's order is that of its pattern.
 use mathlib.Core.Path.{◌≡◌, refl, sym, ap, ◌∙◌, subst}
 use mathlib.Core.Logic.{⊎_elim}
@@ -251,7 +251,7 @@ nans false true m n x y e f = refl
 nans true false m n x y e f = refl
 nans true true m n x y e f = e
 
--- signed comparison of sizes with their signs is total_order
+-- signed comparison of sizes with their signs is totalOrder
 pub rank_orders : (a b : ℕ) → le_z (rank a) (rank b) ≡ total_order a b
 unfolding total_order
 rank_orders a b = sym (⊎_elim
@@ -265,7 +265,7 @@ rank_orders a b = sym (⊎_elim
     (side top (size b)))
     (side top (size a)))
 
--- signed comparison of keys is total_order
+-- signed comparison of keys is totalOrder
 pub key_orders : (a b : ℕ) → a < 2 ^ 64 → b < 2 ^ 64 → le_z (key_of a) (key_of b) ≡ total_order a b
 key_orders a b h k = rw (key_is a h, key_is b k) (rank_orders a b)
 

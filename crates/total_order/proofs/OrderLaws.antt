@@ -1,4 +1,4 @@
--- total_order is a total order of the patterns: reflexive, antisymmetric, transitive and total. Assumes nothing.
+-- totalOrder is a total order of the patterns: reflexive, antisymmetric, transitive and total. Assumes nothing.
 use mathlib.Core.Path.{◌≡◌, refl, sym, ap, ◌∙◌}
 use mathlib.Core.Bool.{Bool, true, false}
 use mathlib.Core.Logic.{◌⊎◌, inl, inr}
@@ -39,7 +39,7 @@ le-false (pos a) (negsuc b) h = refl
 le-false (negsuc a) (pos b) h = cc
 le-false (negsuc a) (negsuc b) h = le-leb a b (omega (arith, leb-false b a h))
 
--- ---- total_order
+-- ---- totalOrder
 
 pub refl_order : (a : ℕ) → total_order a a ≡ true
 refl_order a = sym (rank_orders a a) ∙ le_refl (rank a)

@@ -1,4 +1,4 @@
--- The order of three bit patterns: which place comes first, second and third, by total_order, equal patterns in the order of their places. Definitions only.
+-- The order of three bit patterns: which place comes first, second and third, by totalOrder, equal patterns in the order of their places. Definitions only.
 use Rattle.std.specs.Prelude.{◌≡◌, Bool, true, not, ◌&&◌, ◌||◌, cond, ℕ, zero, suc, ◌<◌, ltb}
 use Rattle.std.specs.Float.Ieee.{of_bits, nan_bits, lt}
 use Rattle.total_order.specs.declared.Order.{Order}
@@ -42,7 +42,7 @@ unfoldable pub order_of : ℕ → ℕ → ℕ → Order
 unfolding total_order nan_bits of_bits lt
 order_of a b c = order_by (pattern_at a b c)
 
--- What a caller may rely on: the three places are 0, 1 and 2, each once, and they rise by total_order of their patterns, then by place.
+-- What a caller may rely on: the three places are 0, 1 and 2, each once, and they rise by totalOrder of their patterns, then by place.
 pub record Rises (p : ℕ → ℕ) (o : Order) : Type 0 where
   pub first_below : o.first < 3
   pub second_below : o.second < 3

@@ -1,4 +1,4 @@
--- IEEE 754-2019's total_order (§5.10) on binary64 bit patterns, by the numbers' values and the NaNs' fields. Definitions only.
+-- IEEE 754-2019's totalOrder (§5.10) on binary64 bit patterns, by the numbers' values and the NaNs' fields. Definitions only.
 -- The letters are the standard's clauses. Its clause c.3, two encodings of one number, has nothing to decide: a binary format has one encoding of each.
 use Rattle.std.specs.Prelude.{Bool, true, false, not, ◌&&◌, ◌||◌, cond, ℕ, ◌%◌, ◌^◌, leb}
 use Rattle.std.specs.Float.{binary64}

@@ -44,7 +44,7 @@ pub fn number(bits: u64) -> f64
     }
 }
 
-// The pattern as a signed integer whose low 63 bits are inverted when it is negative. Signed comparison of keys is total_order.
+// The pattern as a signed integer whose low 63 bits are inverted when it is negative. Signed comparison of keys is totalOrder.
 pub fn key(bits: u64) -> i64
     ensures { result ≡ key_of bits }
 {
@@ -56,7 +56,7 @@ pub fn key(bits: u64) -> i64
     }
 }
 
-// IEEE 754's total_order of two bit patterns.
+// IEEE 754's totalOrder of two bit patterns.
 pub fn total_order(a: u64, b: u64) -> bool
     ensures { result ≡ total_order a b }
 {

@@ -1,4 +1,4 @@
--- `total_order::total_order` meets its contract: signed comparison of keys is total_order. Assumes nothing.
+-- `total_order::total_order` meets its contract: signed comparison of keys is totalOrder. Assumes nothing.
 use mathlib.Core.Path.{refl, sym}
 use Rattle.total_order.proofs.KeyOrder.{order_test}
 use Rattle.total_order.proofs.total_order.Statement.{statement}
