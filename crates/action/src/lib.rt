@@ -1,4 +1,6 @@
 // An action as it is lent: its matrix, its shift, and a point that it carries into the site.
+#![tactic(auto)]
+
 ghost use Rattle.std.specs.Prelude.{◌≡◌, length};
 ghost use Rattle.sums.specs.Sum.{tab, grid};
 ghost use Rattle.derivative.specs.Action.{action_size, action_matrix, action_shift};

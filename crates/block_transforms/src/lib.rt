@@ -1,4 +1,6 @@
 // Transforms beside a map: the shape of each word's transform, and why a call with transforms is turned away.
+#![tactic(auto)]
+
 ghost use Rattle.std.specs.Prelude.{◌≡◌};
 ghost use Rattle.normal_blocks.specs.Map.{lookup, some_exceeds};
 ghost use Rattle.block_transforms.specs.Transform.{shape_of, shape_at, width_under, width_at};
@@ -14,7 +16,7 @@ pub const TRANSFORM: usize = 81;
 pub const MOST_COLUMNS: usize = 9;
 
 // What a word's transform is: there is none, or it has so many rows and columns.
-#[derive(Drop)]
+#[derive(Clone, Copy)]
 pub enum Shape {
     Absent,
     Sized(usize, usize),

@@ -1,4 +1,6 @@
 // What a plane is fitted to, point by point: the centroid of site points and fixed ones, and their scatter about it.
+#![tactic(auto)]
+
 ghost use Rattle.std.specs.Prelude.{◌≡◌, not, ◌++◌};
 ghost use Rattle.sums.specs.Sum.{tab};
 ghost use Rattle.validate.specs.Finite.{all_finite};

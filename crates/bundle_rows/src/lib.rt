@@ -1,4 +1,6 @@
 // The rows of a bundle under its plane: a residual for each point, and the Jacobian, in which a site point has its own frame's columns alone.
+#![tactic(auto)]
+
 ghost use Rattle.std.specs.Prelude.{◌≡◌, ◌++◌, ◌+◌, ◌*◌, ◌<◌, ◌≤◌, length};
 ghost use Rattle.sums.specs.Sum.{tab, grid};
 ghost use Rattle.sums.specs.Fill.{written};

@@ -1,4 +1,6 @@
 // Cards: lists of moments stored in groups of eight records, the counts first, and read again. Numbers are bit patterns.
+#![tactic(auto)]
+
 pub mod places;
 pub mod reading;
 pub mod writing;

@@ -1,4 +1,6 @@
 // Why a push or a merge of moments is turned away: the number of the reason, or 0.
+#![tactic(auto)]
+
 ghost use Rattle.std.specs.Prelude.{◌≡◌};
 ghost use Rattle.counted_moments.specs.Counted.{push_refusal, merge_refusal};
 

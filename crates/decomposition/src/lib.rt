@@ -1,4 +1,6 @@
 // A decomposition that the host hands in as twelve bit patterns: three eigenvalues, then their three vectors, in any order.
+#![tactic(auto)]
+
 ghost use Rattle.std.specs.Prelude.{◌≡◌, [], ◌∷◌, ◌<◌, length};
 ghost use Rattle.std.specs.Float.{binary64};
 ghost use Rattle.std.specs.Float.Ieee.{of_bits};
@@ -14,7 +16,7 @@ pub const MIN_EIGEN_GAP: f64 = 1e-14;
 pub const MIN_POINTS_GAP: f64 = 1e-12;
 
 // The eigenvalues in rising order, and the vector of the first.
-#[derive(Drop)]
+#[derive(Clone, Copy)]
 pub struct Axes {
     pub first: f64,
     pub second: f64,

@@ -1,5 +1,7 @@
 // The rows of a plane's derivatives in a frame: nine numbers, the first `width` of them the definition's and the others +0.
 // The loops are small and take the width as it comes: called with a literal width they are unrolled.
+#![tactic(auto)]
+
 ghost use Rattle.std.specs.Prelude.{◌≡◌, ◌+◌, ◌<◌, ◌≤◌, length, get_or};
 ghost use Rattle.std.specs.Float.{nan};
 ghost use Rattle.sums.specs.Fill.{padded};

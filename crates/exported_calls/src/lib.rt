@@ -1,6 +1,8 @@
 // Calls of the exported functions, one after the other. What is proved of them comes from the exported contracts alone: accumulating calls make the chain that
 // demand 3 speaks of, and leave what it says; a match list goes through the product that multiplying has left; the two builds agree where the survey rule does
 // not refuse; a list comes back from its card, and a card from its list.
+#![tactic(auto)]
+
 ghost use Rattle.std.specs.Prelude.{[], ◌∷◌, length};
 ghost use Rattle.cards.specs.Calls.{Writes, Reads};
 ghost use Rattle.block_transforms.specs.Transform.{without};
@@ -21,7 +23,7 @@ use maghnelt::{
 };
 
 // What four calls return.
-#[derive(Drop)]
+#[derive(Clone, Copy)]
 pub struct Numbers {
     pub first: u32,
     pub second: u32,
@@ -77,7 +79,7 @@ pub fn four_calls(
 }
 
 // What multiplying and accumulating return.
-#[derive(Drop)]
+#[derive(Clone, Copy)]
 pub struct Stages {
     pub multiplied: u32,
     pub added: u32,
@@ -112,7 +114,7 @@ pub fn multiply_and_add(
 }
 
 // What the two builds return.
-#[derive(Drop)]
+#[derive(Clone, Copy)]
 pub struct Answers {
     pub plain: u32,
     pub strict: u32,
@@ -159,7 +161,7 @@ pub fn both_builds(
 }
 
 // What the calls on cards return.
-#[derive(Drop)]
+#[derive(Clone, Copy)]
 pub struct Turns {
     pub written: u32,
     pub read: u32,

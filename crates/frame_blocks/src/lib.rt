@@ -1,4 +1,6 @@
 // All frames of a call under a plane: what each costs, and what the mapped ones add.
+#![tactic(auto)]
+
 ghost use Rattle.std.specs.Prelude.{◌≡◌, false, ◌⊎◌, ℕ, ◌+◌, ◌*◌, ◌^◌, ◌≤◌, ◌<◌, length};
 ghost use Rattle.derivative.specs.Action.{action_size};
 ghost use Rattle.point_moments.specs.Scatter.{CENTRED};

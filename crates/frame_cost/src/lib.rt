@@ -1,4 +1,6 @@
 // What a frame and the fixed set cost under a plane.
+#![tactic(auto)]
+
 ghost use Rattle.std.specs.Prelude.{◌≡◌, ◌⊎◌, ◌+◌, ◌*◌, ◌≤◌, length};
 ghost use Rattle.sums.specs.Sum.{sum_from, sum_from_zero};
 ghost use Rattle.sums.specs.Fill.{First};
@@ -20,7 +22,7 @@ pub fn weight(sigma: f64) -> f64
 }
 
 // How a plane pulls at a set: at its normal as the set sees it, scatter·a, and at its distance, count·along; and what the set costs.
-#[derive(Drop)]
+#[derive(Clone, Copy)]
 pub struct Pull {
     pub turn: [f64; 3],
     pub shift: f64,

@@ -1,4 +1,6 @@
 // A plane as one frame sees it: its normal turned into the frame, and the distance of the frame's mean from it.
+#![tactic(auto)]
+
 ghost use Rattle.std.specs.Prelude.{◌≡◌, length};
 ghost use Rattle.derivative.specs.Action.{action_size};
 ghost use Rattle.frame_normal.specs.Normal.{normal_in, along_of};

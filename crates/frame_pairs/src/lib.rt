@@ -2,6 +2,8 @@
 // frame k of the pair at 2·e + k, so that the compiler makes one vector of the two. Then one frame's numbers are added after the other's.
 // The parts of a pair are made by value, in an array of their own, so that the compiler need not test whether they overlap what they are made of. The number of
 // columns stands in the code, so that it unrolls the loops: what differs in that number alone is written for three and for five.
+#![tactic(auto)]
+
 ghost use Rattle.std.specs.Prelude.{◌≡◌, false, ℕ, ◌+◌, ◌*◌, ◌^◌, ◌<◌, ◌≤◌, length};
 ghost use Rattle.sums.specs.Sum.{◌⊗◌, sum_to};
 ghost use Rattle.sums.specs.Fill.{padded};
@@ -24,7 +26,7 @@ use point_moments::scatter::{CENTRED, Centred};
 const PAIR: usize = 2;
 
 // The three rows of D, the three of P = DᵀS, and m.
-#[derive(Drop)]
+#[derive(Clone, Copy)]
 struct Rows(
     [f64; 9],
     [f64; 9],
@@ -83,7 +85,7 @@ fn left(t: &[f64], at: usize, x: [f64; 9], rows: usize, cols: usize) -> [f64; 9]
 }
 
 // The six columns of Tᵀ.M.
-#[derive(Drop)]
+#[derive(Clone, Copy)]
 struct Six([f64; 9], [f64; 9], [f64; 9], [f64; 9], [f64; 9], [f64; 9]);
 
 // The columns of U times six numbers of t, added up: a column of U.T.

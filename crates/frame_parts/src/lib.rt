@@ -1,5 +1,7 @@
 // Frames of three columns. Two numbers of one column make a vector of the machine's and the third is left over, so that frames are worked out
 // side by side: the block, the vector and the cost of each frame of a batch, and then one frame's added at its segment.
+#![tactic(auto)]
+
 ghost use Rattle.std.specs.Prelude.{◌≡◌, ◌+◌, ◌*◌, ◌≤◌, ◌<◌, length};
 ghost use Rattle.batches.specs.Beside.{put_beside, Beside};
 ghost use Rattle.sums.specs.Sum.{tab};
@@ -17,7 +19,7 @@ use point_moments::scatter::{CENTRED, Centred};
 pub const BATCH: usize = 4;
 
 // What a frame of three columns adds: its block by columns, its vector, and its cost.
-#[derive(Drop)]
+#[derive(Clone, Copy)]
 pub struct Part {
     pub block: [f64; 9],
     pub vector: [f64; 3],

@@ -1,4 +1,6 @@
 // The root of a set's scatter, as its decomposition gives it: of a batch of frames side by side, and of a lone set row by row.
+#![tactic(auto)]
+
 ghost use Rattle.std.specs.Prelude.{◌≡◌, ◌+◌, ◌*◌, ◌≤◌, ◌<◌, length};
 ghost use Rattle.sums.specs.Fill.{written};
 ghost use Rattle.lists.specs.Part.{◌!◌};
@@ -28,7 +30,7 @@ pub fn root_row(d: &[u64], k: usize) -> [f64; 3]
 }
 
 // A root of a set's scatter by rows, as its decomposition gives it, and the root of its count.
-#[derive(Drop)]
+#[derive(Clone, Copy)]
 pub struct Root {
     pub first: [f64; 3],
     pub second: [f64; 3],

@@ -1,4 +1,6 @@
 // A frame factor linearized at a plane: the residuals, and the Jacobian's blocks.
+#![tactic(auto)]
+
 ghost use Rattle.std.specs.Prelude.{◌≡◌, ℕ, ◌+◌, ◌*◌, ◌≤◌, ◌<◌, length};
 ghost use Rattle.sums.specs.Sum.{zero_f};
 ghost use Rattle.sums.specs.Fill.{written};
@@ -32,7 +34,7 @@ fn rows(root: Root, v: [f64; 3], s: f64, info: f64) -> [f64; 4]
 }
 
 // A fitted plane, and the 1 / sigma that rows are scaled by.
-#[derive(Drop)]
+#[derive(Clone, Copy)]
 pub struct Fitted {
     pub normal: [f64; 3],
     pub offset: f64,

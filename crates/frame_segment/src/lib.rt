@@ -1,5 +1,7 @@
 // One mapped frame: its block and vector, worked out of rows of nine numbers and added straight to the Hessian's columns and to the gradient.
 // The loops are small and take the width as it comes: called with a literal width they are unrolled, and the rows stay in registers.
+#![tactic(auto)]
+
 ghost use Rattle.std.specs.Prelude.{◌≡◌, ◌+◌, ◌*◌, ◌≤◌, length};
 ghost use Rattle.terms.specs.Terms.{add_all, segment, block};
 ghost use Rattle.plane_fit.specs.Fit.{frame_at, action_at};

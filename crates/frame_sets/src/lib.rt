@@ -1,4 +1,6 @@
 // The moments that a frame factor is built from: the tests of them, and the sets centred on their means.
+#![tactic(auto)]
+
 ghost use Rattle.std.specs.Prelude.{◌≡◌, ◌⊎◌, true, false, cond, [], ◌∷◌, ◌*◌, length};
 ghost use Rattle.std.specs.Float.Ieee.{lt};
 ghost use Rattle.refusals.specs.Refusal.{◌when◌, first_of};
@@ -12,7 +14,7 @@ use point_moments::scatter::CENTRED;
 use point_moments::{MOMENTS, PointMoments};
 
 // The frames' counts: their sum in order, and whether one is at or below 0.
-#[derive(Drop)]
+#[derive(Clone, Copy)]
 struct CountSum {
     sum: f64,
     empty: bool,
@@ -84,7 +86,7 @@ fn point_total(sum: f64, fixed: &[f64]) -> f64
 }
 
 // What the counts of all sets tell: the number of the reason to refuse, 4 or 5, or 0; and the point total.
-#[derive(Drop)]
+#[derive(Clone, Copy)]
 pub struct CountTest {
     pub refusal: u32,
     pub points: f64,

@@ -1,4 +1,6 @@
 // A record of moments that is lent: one point more, another set more. Each answers 0, or the number of the reason to refuse it, and then nothing is stored.
+#![tactic(auto)]
+
 ghost use Rattle.refusals.specs.Refusal.{Answered};
 ghost use Rattle.point_moments.specs.Moments.{with_point, merged};
 ghost use Rattle.counted_moments.specs.Counted.{push_refusal, merge_refusal};

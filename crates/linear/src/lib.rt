@@ -1,4 +1,6 @@
 // Vectors of three and matrices of three by three, by value and by columns: each function gives the bits of the sums of products that `sums` defines.
+#![tactic(auto)]
+
 ghost use Rattle.std.specs.Prelude.{◌≡◌};
 ghost use Rattle.sums.specs.Sum.{dot, product, transpose, plus, outer, scaled, divided};
 

@@ -1,4 +1,6 @@
 // Numbers between lent lists and arrays by value, a list cleared, and how a list is taken in batches.
+#![tactic(auto)]
+
 ghost use Rattle.std.specs.Prelude.{◌≡◌, ◌+◌, ◌-◌, ◌≤◌, min, ◌∷◌, ◌++◌, length, replicate};
 ghost use Rattle.sums.specs.Sum.{zero_f};
 ghost use Rattle.lists.specs.Part.{part};

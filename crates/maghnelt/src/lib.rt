@@ -1,4 +1,6 @@
 // The functions that hosts link: the C interface of include/maghnelt.h, each a call of the crate below it.
+#![tactic(auto)]
+
 ghost use Rattle.std.specs.Prelude.{◌≡◌, length};
 ghost use Rattle.square_root.specs.Computed.{square_root};
 ghost use Rattle.total_order.specs.Key.{key_of};

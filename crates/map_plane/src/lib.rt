@@ -1,4 +1,6 @@
 // One match of a point with a map plane: why it is turned away, and its residual and row below the chain that carries its point into the site.
+#![tactic(auto)]
+
 ghost use Rattle.std.specs.Prelude.{◌≡◌, ◌+◌, ◌*◌, ◌≤◌, length};
 ghost use Rattle.refusals.specs.Refusal.{first_of};
 ghost use Rattle.sums.specs.Fill.{First, written};

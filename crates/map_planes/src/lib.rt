@@ -1,4 +1,6 @@
 // Many matches on one pose: why a list is turned away, and its rows.
+#![tactic(auto)]
+
 ghost use Rattle.std.specs.Prelude.{◌≡◌, ◌*◌, ◌<◌, ◌≤◌, false, length};
 ghost use Rattle.refusals.specs.Refusal.{first_of};
 ghost use Rattle.map_planes.specs.Calls.{bad_matches, list_reasons, matches_refusal};

@@ -1,6 +1,8 @@
 // A match list by columns: its residuals and its Jacobian. The Jacobian's first columns are written in one pass with the residuals, so that one
 // division and one read of a match serve both; further ones three at a time. Each pass goes over the matches, whose stores are neighbours in each
 // column, and becomes vector code.
+#![tactic(auto)]
+
 ghost use Rattle.std.specs.Prelude.{◌≡◌, ◌+◌, ◌*◌, ◌/◌, ◌<◌, ◌≤◌, length};
 ghost use Rattle.sums.specs.Sum.{grid};
 ghost use Rattle.derivative.specs.Action.{action_size};

@@ -1,4 +1,6 @@
 // One match of a list under an action: its residual, and its row of derivatives.
+#![tactic(auto)]
+
 ghost use Rattle.std.specs.Prelude.{◌≡◌, ℕ, ◌+◌, ◌*◌, ◌≤◌, ◌<◌, length};
 ghost use Rattle.sums.specs.Fill.{First};
 ghost use Rattle.derivative.specs.Action.{action_size};

@@ -1,5 +1,7 @@
 // What a match list sums to under an action: its cost, and the block and the vector of the normal equations, by groups of 512 matches.
 // row_i·row_j and row_j·row_i have the same bits, so only the upper half of the block is summed; it is mirrored at the end.
+#![tactic(auto)]
+
 ghost use Rattle.std.specs.Prelude.{◌≡◌, ℕ, ◌+◌, ◌*◌, ◌/◌, ◌<◌, ◌≤◌, ◌-◌, length};
 ghost use Rattle.sums.specs.Sum.{◌⊗◌, zero_f, sum_from, grid};
 ghost use Rattle.sums.specs.Fill.{First};
@@ -274,7 +276,7 @@ fn mirrored(h: &[f64; 81]) -> [f64; 81]
     out
 }
 
-#[derive(Drop)]
+#[derive(Clone, Copy)]
 pub struct MatchSums {
     pub cost: f64,
     pub block: [f64; 81],

@@ -1,4 +1,6 @@
 // The calls of a host on moments as lists: each answers 0, or the number of the reason to refuse it, and then it writes nothing.
+#![tactic(auto)]
+
 ghost use Rattle.moment_lists.specs.Calls.{FromPoints, Pushes, Merges, Transforms, FindsMean, FindsPlane};
 
 use decomposition::DECOMPOSITION;

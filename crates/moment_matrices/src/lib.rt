@@ -1,4 +1,6 @@
 // What moments are made of, as arrays by value: the scatter about a mean, and the outer products of moved points.
+#![tactic(auto)]
+
 ghost use Rattle.std.specs.Prelude.{◌≡◌};
 ghost use Rattle.sums.specs.Sum.{scaled};
 ghost use Rattle.moment_matrices.specs.Matrices.{spread_of, symmetric_of, scatter_of, moved_outer};

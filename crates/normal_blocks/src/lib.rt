@@ -1,4 +1,6 @@
 // Block maps: where each frame of a factor goes in the Hessian, and maps read through index lists.
+#![tactic(auto)]
+
 pub mod target;
 
 ghost use Rattle.std.specs.Prelude.{◌≡◌, false, length};
@@ -16,7 +18,7 @@ pub const MOST_WORDS: usize = 1024;
 pub const MOST_ROWS: usize = 1024;
 
 // Where a frame goes: its offset in the Hessian, or nowhere.
-#[derive(Drop)]
+#[derive(Clone, Copy)]
 pub enum Place {
     At(usize),
     Unmapped,

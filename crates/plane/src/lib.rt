@@ -1,4 +1,6 @@
 // A plane with a unit normal, and the standard deviation of a point's distance from it.
+#![tactic(auto)]
+
 ghost use Rattle.std.specs.Prelude.{◌≡◌, ◌+◌, ◌≤◌, length};
 ghost use Rattle.sums.specs.Sum.{◌⊗◌, sum_to, off};
 ghost use Rattle.lists.specs.Part.{◌!◌};
@@ -6,21 +8,21 @@ ghost use Rattle.plane.specs.Plane.{PLANE, plane_of, plane_new};
 ghost use Rattle.plane.specs.Sigma.{jacobian, point_term, plane_term, variance, deviation};
 
 // The points x with normal·x + offset = 0.
-#[derive(Drop)]
+#[derive(Clone, Copy)]
 pub struct Plane {
     pub normal: [f64; 3],
     pub offset: f64,
 }
 
 // The normal and the offset of a plane, or the number of the reason to refuse it.
-#[derive(Drop)]
+#[derive(Clone, Copy)]
 pub enum PlaneAnswer {
     Refused(u32),
     Made(f64, f64, f64, f64),
 }
 
 // The standard deviation of a point's distance from a plane, or the number of the reason to refuse it.
-#[derive(Drop)]
+#[derive(Clone, Copy)]
 pub enum Sigma {
     Refused(u32),
     Value(f64),

@@ -1,4 +1,6 @@
 // The plane bundle factor, point by point: the host's two calls, with what they are refused for.
+#![tactic(auto)]
+
 ghost use Rattle.std.specs.Prelude.{◌≡◌, not, ◌++◌, ◌≤◌, eqb, length};
 ghost use Rattle.sums.specs.Sum.{tab};
 ghost use Rattle.plane_fit.specs.Calls.{most_frames};

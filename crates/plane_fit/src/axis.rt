@@ -7,7 +7,7 @@ ghost use Rattle.plane_fit.specs.Axis.{smallest_axis};
 use decomposition::MIN_EIGEN_GAP;
 
 // A normal with its offset, or no plane.
-#[derive(Drop)]
+#[derive(Clone, Copy)]
 pub enum Fit {
     Plane(f64, f64, f64, f64),
     NoPlane,

@@ -1,4 +1,6 @@
 // What a plane is fitted to, the mean and the scatter over the frames and then the fixed set; and the fit by a decomposition of them.
+#![tactic(auto)]
+
 pub mod axis;
 
 ghost use Rattle.std.specs.Prelude.{◌≡◌, ℕ, ◌+◌, ◌*◌, ◌≤◌, ◌<◌, ◌++◌, length};
@@ -60,7 +62,7 @@ pub fn centre(x: &[f64], f: Centred) -> [f64; 3]
 }
 
 // The counts of some sets, and the sum of their means times their counts.
-#[derive(Drop)]
+#[derive(Clone, Copy)]
 pub struct Weighted {
     pub total: f64,
     pub sum: [f64; 3],
@@ -138,7 +140,7 @@ fn spread_of(x: &[f64], f: Centred, mean: [f64; 3]) -> [f64; 9]
 }
 
 // A scatter that grows by the parts of the sets.
-#[derive(Drop)]
+#[derive(Clone, Copy)]
 struct Scatter {
     entries: [f64; 9],
 }

@@ -1,4 +1,6 @@
 // The calls of a host on planes as lists: each answers 0, or the number of the reason to refuse it, and then it writes nothing.
+#![tactic(auto)]
+
 ghost use Rattle.std.specs.Prelude.{◌≡◌, length};
 ghost use Rattle.refusals.specs.Refusal.{Answered};
 ghost use Rattle.plane.specs.Plane.{PLANE};

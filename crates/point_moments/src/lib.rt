@@ -1,4 +1,6 @@
 // Moments of a set of points: how many, their sum, and the sum of their outer products.
+#![tactic(auto)]
+
 pub mod plane;
 pub mod scatter;
 
@@ -11,7 +13,7 @@ ghost use Rattle.point_moments.specs.Moments.{MOMENTS, MOST_POINTS, moments_of, 
 use point_sums::Sums;
 
 // The outer products are by columns.
-#[derive(Drop)]
+#[derive(Clone, Copy)]
 pub struct PointMoments {
     pub count: f64,
     pub sum: [f64; 3],

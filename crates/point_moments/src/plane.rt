@@ -6,7 +6,7 @@ ghost use Rattle.point_moments.specs.Plane.{plane_of};
 use crate::PointMoments;
 use decomposition::MIN_EIGEN_GAP;
 
-#[derive(Drop)]
+#[derive(Clone, Copy)]
 pub enum MomentsPlane {
     // Normal, offset, and the eigenvalues in rising order.
     Found(f64, f64, f64, f64, f64, f64, f64),

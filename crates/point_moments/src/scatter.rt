@@ -4,7 +4,7 @@ ghost use Rattle.point_moments.specs.Scatter.{CENTRED, has_mean, mean_and_scatte
 
 use crate::PointMoments;
 
-#[derive(Drop)]
+#[derive(Clone, Copy)]
 pub enum MeanAndScatter {
     // The mean, then the scatter by columns.
     Found(f64, f64, f64, f64, f64, f64, f64, f64, f64, f64, f64, f64),
@@ -15,7 +15,7 @@ pub enum MeanAndScatter {
 pub const CENTRED: usize = 13;
 
 // A set centred on its mean: the scatter is here times the count.
-#[derive(Drop)]
+#[derive(Clone, Copy)]
 pub struct Centred {
     pub count: f64,
     pub mean: [f64; 3],

@@ -1,10 +1,12 @@
 // The sums that the moments of a list of points are made of, in one pass.
+#![tactic(auto)]
+
 ghost use Rattle.std.specs.Prelude.{◌≡◌, ◌*◌, ◌≤◌, length};
 ghost use Rattle.point_sums.specs.Sums.{none, with_point, sums_of};
 
 // Of the coordinates, and of the six products of two of them that differ: y·x has the bits of x·y. The compiler adds two neighbours in one register, so their order
 // decides how fast the loop is.
-#[derive(Drop)]
+#[derive(Clone, Copy)]
 pub struct Sums {
     pub xy: f64,
     pub yz: f64,

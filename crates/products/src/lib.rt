@@ -1,4 +1,6 @@
 // Sums of products over slices, of any length: one loop for every sum, one for a column, one for a matrix.
+#![tactic(auto)]
+
 ghost use Rattle.std.specs.Prelude.{◌≡◌, ℕ, ◌+◌, ◌*◌, ◌<◌, ◌≤◌, length, get_or};
 ghost use Rattle.std.specs.Float.{nan};
 ghost use Rattle.sums.specs.Sum.{sum_to, ◌⊗◌, dot, product};

@@ -1,13 +1,17 @@
 // Makes the calls of a stored sample and writes how many agree with what the original Rust answered to them. The sample was made by
 // `original sample` in oracle/original, which compiles the original's own text; the command scripts/sample makes it again.
+#![tactic(auto)]
+
 mod call;
 mod case;
 mod lists;
 mod sample;
 
-use libc::STDOUT_FILENO;
 use lists::Numbers;
 use sample::Sample;
+use std::fs::File;
+use std::io;
+use std::io::Read;
 
 // Room for the sample.
 fn room() -> Sample {
@@ -55,23 +59,29 @@ fn agreeing(sample: &Sample, cases: u32) -> u32 {
     agree
 }
 
-fn wide(x: u32) -> u64 {
-    x as u64
+// Fills the sample from a file, as far as that goes.
+fn fill(file: &mut File, sample: &mut Sample) -> io::Result<()> {
+    let mut filled = 0;
+    for _ in 0..700000 {
+        let n = file.read(&mut sample[filled..])?;
+        if n == 0 {
+            break;
+        }
+        filled += n;
+    }
+    Ok(())
 }
 
 // Writes how many of the sample's calls agree.
-fn report(sample: &Sample) {
+fn report(rt: &impl Print, sample: &Sample) -> io::Result<()> {
     let cases = sample::unit(sample, 0);
-    io::print_decimal(STDOUT_FILENO, wide(agreeing(sample, cases)));
-    io::write_all(STDOUT_FILENO, b" of ");
-    io::print_decimal(STDOUT_FILENO, wide(cases));
-    io::write_all(STDOUT_FILENO, b" calls agree\n");
+    let agree = agreeing(sample, cases);
+    println!(rt; "{agree} of {cases} calls agree")
 }
 
-fn main() {
-    let fd = os::open_read(b"sample");
+fn main(rt: HostRuntime) -> io::Result<()> {
+    let mut file = File::open(&rt, "sample")?;
     let mut sample = room();
-    io::read_full(fd, &mut sample);
-    libc::close(fd);
-    report(&sample);
+    fill(&mut file, &mut sample)?;
+    report(&rt, &sample)
 }

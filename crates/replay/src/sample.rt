@@ -34,7 +34,7 @@ fn long(x: u32) -> u64 {
 }
 
 // A place in a list of numbers: where the next unit lies, the bits of the numbers from this one on, this number's pattern.
-#[derive(Drop)]
+#[derive(Clone, Copy)]
 struct Cursor {
     at: usize,
     others: u32,

@@ -1,4 +1,6 @@
 // The square root of an f64, correctly rounded, worked out on integers.
+#![tactic(auto)]
+
 pub mod many;
 
 ghost use Rattle.std.specs.Prelude.{◌≡◌, ◌+◌, ◌-◌, ◌*◌, ◌%◌, ◌^◌, ◌<◌, ◌≤◌};

@@ -39,7 +39,7 @@ fn digits(x: f64) -> u64
 }
 
 // Digits of a root, and 0 where there is no doubt about them.
-#[derive(Drop)]
+#[derive(Clone, Copy)]
 struct Guess {
     root: u64,
     doubt: u64,

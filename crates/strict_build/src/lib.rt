@@ -1,5 +1,7 @@
 // Building a frame factor by the survey rule, beside the build of plane_moments: a fixed count below 0 is refused by 13, and a set that is dropped does not
 // count in test 5.
+#![tactic(auto)]
+
 ghost use Rattle.std.specs.Prelude.{◌≡◌, ◌⊎◌, length};
 ghost use Rattle.point_moments.specs.Moments.{MOMENTS};
 ghost use Rattle.strict_build.specs.Strict.{negative, BuildsStrictly};

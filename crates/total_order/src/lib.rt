@@ -1,4 +1,6 @@
 // IEEE 754's total order on binary64 bit patterns: the value of a pattern, its key, and the order of three.
+#![tactic(auto)]
+
 ghost use Rattle.std.specs.Prelude.{◌≡◌};
 ghost use Rattle.std.specs.Float.{binary64};
 ghost use Rattle.std.specs.Float.Ieee.{of_bits, nan_bits};
@@ -7,7 +9,7 @@ ghost use Rattle.total_order.specs.TotalOrder.{total_order};
 ghost use Rattle.total_order.specs.Three.{order_of};
 
 // The places of three patterns in rising order.
-#[derive(Drop)]
+#[derive(Clone, Copy)]
 pub struct Order {
     pub first: usize,
     pub second: usize,

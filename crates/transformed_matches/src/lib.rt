@@ -1,4 +1,6 @@
 // Accumulating a match list, through the transform of word 0 if there is one.
+#![tactic(auto)]
+
 ghost use Rattle.std.specs.Prelude.{◌≡◌, ◌+◌, ◌*◌, ◌≤◌, length};
 ghost use Rattle.normal_blocks.specs.Map.{lookup};
 ghost use Rattle.block_transforms.specs.Transform.{shape_at, entry_from, width_under};

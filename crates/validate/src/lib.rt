@@ -1,4 +1,6 @@
 // Tests of numbers: finite, and finite and positive.
+#![tactic(auto)]
+
 ghost use Rattle.std.specs.Prelude.{◌≡◌, ◌&&◌};
 ghost use Rattle.std.specs.Float.Ieee.Scale.{finite};
 ghost use Rattle.validate.specs.Finite.{all_finite, finite_above, finite_positive};

@@ -1,25 +1,21 @@
 // Runs document 01's worked cases, a case of the frame factor in whole numbers and a full set through the proved functions and writes what they give; the file
 // `stdout` holds what was worked out on paper.
+#![tactic(auto)]
+
 ghost use Rattle.std.specs.Prelude.{◌≡◌};
 ghost use Rattle.refusals.specs.Refusal.{kept};
 ghost use Rattle.point_moments.specs.Moments.{with_point, merged};
 ghost use Rattle.counted_moments.specs.Counted.{push_refusal, merge_refusal};
 
-use libc::STDOUT_FILENO;
 use point_moments::PointMoments;
 use point_moments::plane::MomentsPlane;
 use point_moments::scatter::MeanAndScatter;
+use std::io;
 
 // The places of three patterns in rising order.
-fn order(label: &[u8], a: u64, b: u64, c: u64) {
+fn order(rt: &impl Print, label: &str, a: u64, b: u64, c: u64) -> io::Result<()> {
     let o = total_order::order_of_three(a, b, c);
-    io::write_all(STDOUT_FILENO, label);
-    io::print_decimal(STDOUT_FILENO, o.first as u64);
-    io::write_all(STDOUT_FILENO, b" ");
-    io::print_decimal(STDOUT_FILENO, o.second as u64);
-    io::write_all(STDOUT_FILENO, b" ");
-    io::print_decimal(STDOUT_FILENO, o.third as u64);
-    io::write_all(STDOUT_FILENO, b"\n");
+    println!(rt; "{label}{} {} {}", o.first, o.second, o.third)
 }
 
 // The pattern of a number; of a NaN the quiet one without payload, since `to_bits` is not asked of NaNs.
@@ -32,21 +28,18 @@ fn bits_of(x: f64) -> u64 {
 }
 
 // The root of the number that a pattern stands for, by its pattern.
-fn root(label: &[u8], bits: u64) {
+fn root(rt: &impl Print, label: &str, bits: u64) -> io::Result<()> {
     let r = square_root::sqrt(total_order::number(bits));
-    io::write_all(STDOUT_FILENO, label);
-    io::print_hex(STDOUT_FILENO, bits_of(r), 16);
-    io::write_all(STDOUT_FILENO, b"\n");
+    println!(rt; "{label}{:016x}", bits_of(r))
 }
 
 // The patterns of a list of numbers.
-fn list(label: &[u8], numbers: &[f64]) {
-    io::write_all(STDOUT_FILENO, label);
-    for k in 0..numbers.len() {
-        io::write_all(STDOUT_FILENO, b" ");
-        io::print_hex(STDOUT_FILENO, bits_of(numbers[k]), 16);
+fn list(rt: &impl Print, label: &str, numbers: &[f64]) -> io::Result<()> {
+    print!(rt; "{label}")?;
+    for x in numbers {
+        print!(rt; " {:016x}", bits_of(*x))?;
     }
-    io::write_all(STDOUT_FILENO, b"\n");
+    println!(rt; "")
 }
 
 // The moments of a list of points; of one that is refused, the empty set's.
@@ -57,19 +50,17 @@ fn gathered(points: &[f64]) -> PointMoments {
     PointMoments::from_points(points)
 }
 
-fn moments(label: &[u8], m: PointMoments) {
-    list(label, &m.to_list());
+fn moments(rt: &impl Print, label: &str, m: PointMoments) -> io::Result<()> {
+    list(rt, label, &m.to_list())
 }
 
 // The mean of a set and the scatter about it.
-fn mean(label: &[u8], m: PointMoments) {
+fn mean(rt: &impl Print, label: &str, m: PointMoments) -> io::Result<()> {
     match m.mean_and_scatter() {
         MeanAndScatter::Found(x, y, z, xx, yx, zx, xy, yy, zy, xz, yz, zz) => {
-            list(label, &[x, y, z, xx, yx, zx, xy, yy, zy, xz, yz, zz]);
+            list(rt, label, &[x, y, z, xx, yx, zx, xy, yy, zy, xz, yz, zz])
         }
-        MeanAndScatter::NoMean => {
-            list(label, &[]);
-        }
+        MeanAndScatter::NoMean => list(rt, label, &[]),
     }
 }
 
@@ -124,18 +115,12 @@ fn full() -> PointMoments {
 }
 
 // Why a push and a merge into that set are refused, and the set after each.
-fn refused(p: [f64; 3]) {
+fn refused(rt: &impl Print, p: [f64; 3]) -> io::Result<()> {
     let one = pushed(PointMoments::empty(), p);
-    io::print_decimal(
-        STDOUT_FILENO,
-        counted_moments::push_refusal(full(), p) as u64,
-    );
-    moments(b" pushed", pushed(full(), p));
-    io::print_decimal(
-        STDOUT_FILENO,
-        counted_moments::merge_refusal(full(), one) as u64,
-    );
-    moments(b" merged", merged(full(), one));
+    print!(rt; "{}", counted_moments::push_refusal(full(), p))?;
+    moments(rt, " pushed", pushed(full(), p))?;
+    print!(rt; "{}", counted_moments::merge_refusal(full(), one))?;
+    moments(rt, " merged", merged(full(), one))
 }
 
 // Eigenvalues 0, 1e-12 and 200, and the unit axes, by their patterns.
@@ -155,17 +140,12 @@ const NARROW: [u64; 12] = [
 ];
 
 // Whether a set of points has a plane by a decomposition.
-fn plane(label: &[u8], m: PointMoments) {
-    io::write_all(STDOUT_FILENO, label);
+fn plane(rt: &impl Print, label: &str, m: PointMoments) -> io::Result<()> {
     let d = NARROW;
     let p = m.plane(&d);
     match p {
-        MomentsPlane::Found(_, _, _, _, _, _, _) => {
-            io::write_all(STDOUT_FILENO, b" plane\n");
-        }
-        MomentsPlane::NoPlane => {
-            io::write_all(STDOUT_FILENO, b" none\n");
-        }
+        MomentsPlane::Found(_, _, _, _, _, _, _) => println!(rt; "{label} plane"),
+        MomentsPlane::NoPlane => println!(rt; "{label} none"),
     }
 }
 
@@ -177,7 +157,7 @@ fn points_at_the_origin(count: f64) -> [f64; 13] {
 }
 
 // Building the factor of one frame of so many points and a fixed set: the reason to refuse, or 0 and the point total.
-fn build(label: &[u8], count: f64, fixed: f64) {
+fn build(rt: &impl Print, label: &str, count: f64, fixed: f64) -> io::Result<()> {
     let frame = points_at_the_origin(count);
     let set = points_at_the_origin(fixed);
     let mut frames = [0.0; 13];
@@ -194,9 +174,8 @@ fn build(label: &[u8], count: f64, fixed: f64) {
         &mut points,
         &mut dropped,
     );
-    io::write_all(STDOUT_FILENO, label);
-    io::print_decimal(STDOUT_FILENO, why as u64);
-    list(b"", &[points]);
+    print!(rt; "{label}{why}")?;
+    list(rt, "", &[points])
 }
 
 // The case in whole numbers: a frame of four points, the identity, one column, and decompositions with the unit axes, the fit's and the frame's.
@@ -242,7 +221,7 @@ fn moving_out() -> [f64; 120] {
     x
 }
 
-fn accumulate() {
+fn accumulate(rt: &impl Print) -> io::Result<()> {
     let frames = SQUARE;
     let fixed = [0.0; 0];
     let actions = moving_out();
@@ -263,12 +242,12 @@ fn accumulate() {
         &mut gradient,
         &mut cost,
     );
-    list(b"cost", &[cost]);
-    list(b"hessian", &hessian);
-    list(b"gradient", &gradient);
+    list(rt, "cost", &[cost])?;
+    list(rt, "hessian", &hessian)?;
+    list(rt, "gradient", &gradient)
 }
 
-fn linearize() {
+fn linearize(rt: &impl Print) -> io::Result<()> {
     let frames = SQUARE;
     let fixed = [0.0; 0];
     let actions = moving_out();
@@ -285,39 +264,41 @@ fn linearize() {
         &mut residual,
         &mut jacobian,
     );
-    list(b"residual", &residual);
-    list(b"jacobian", &jacobian);
+    list(rt, "residual", &residual)?;
+    list(rt, "jacobian", &jacobian)
 }
 
-fn main() {
+fn main(rt: HostRuntime) -> io::Result<()> {
     let point = [1.0, 2.0, 3.0];
-    moments(b"a", gathered(&point[0..0]));
-    moments(b"b", gathered(&point));
-    moments(b"b", pushed(PointMoments::empty(), point));
-    mean(b"c", corners());
-    mean(b"c", halves());
-    moments(b"d", corners().transformed(IDENTITY, [0.0, 0.0, 5.0]));
+    moments(&rt, "a", gathered(&point[0..0]))?;
+    moments(&rt, "b", gathered(&point))?;
+    moments(&rt, "b", pushed(PointMoments::empty(), point))?;
+    mean(&rt, "c", corners())?;
+    mean(&rt, "c", halves())?;
+    moments(&rt, "d", corners().transformed(IDENTITY, [0.0, 0.0, 5.0]))?;
     order(
-        b"e ",
+        &rt,
+        "e ",
         0x3ff0_0000_0000_0000,
         0x3ff0_0000_0000_0000,
         0x0000_0000_0000_0000,
-    );
-    plane(b"f", corners());
+    )?;
+    plane(&rt, "f", corners())?;
     order(
-        b"g ",
+        &rt,
+        "g ",
         0x8000_0000_0000_0000,
         0x0000_0000_0000_0000,
         0x3ff0_0000_0000_0000,
-    );
-    build(b"h ", 5.0, -1.0);
-    build(b"i ", 5.0, -3.0);
-    build(b"j ", 2.0, 1.0);
-    build(b"j ", 2.0, 0.5);
-    root(b"k ", 0x4010_0000_0000_0000);
-    root(b"k ", 0x0000_0000_0000_0001);
-    root(b"k ", 0x4000_0000_0000_0000);
-    accumulate();
-    linearize();
-    refused(point);
+    )?;
+    build(&rt, "h ", 5.0, -1.0)?;
+    build(&rt, "i ", 5.0, -3.0)?;
+    build(&rt, "j ", 2.0, 1.0)?;
+    build(&rt, "j ", 2.0, 0.5)?;
+    root(&rt, "k ", 0x4010_0000_0000_0000)?;
+    root(&rt, "k ", 0x0000_0000_0000_0001)?;
+    root(&rt, "k ", 0x4000_0000_0000_0000)?;
+    accumulate(&rt)?;
+    linearize(&rt)?;
+    refused(&rt, point)
 }
