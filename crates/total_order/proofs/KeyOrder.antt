@@ -21,7 +21,7 @@ use Rattle.total_order.specs.Key.{key_of}
 use Rattle.total_order.specs.TotalOrder.{total_order, nan_below}
 use Rattle.total_order.proofs.Parts.{side}
 use Rattle.total_order.proofs.KeyLaws.{size, sign, signed, rank, key_is, key_fits}
-use Rattle.total_order.proofs.NanPatterns.{top, is_nan, no_nan}
+use Rattle.total_order.proofs.NanPatterns.{top, is_nan_lem, no_nan}
 
 -- ---- tests on scaled numbers
 
@@ -256,11 +256,11 @@ pub rank_orders : (a b : ℕ) → le_z (rank a) (rank b) ≡ total_order a b
 unfolding total_order
 rank_orders a b = sym (⊎_elim
     (λ (p : top < size a). ⊎_elim
-    (λ (q : top < size b). rw (is_nan a p, is_nan b q) (nans (sign a) (sign b) (size a) (size b) (nan_below b a) (nan_below a b) (nans_below b a q p) (nans_below a b p q)))
-    (λ (q : size b ≤ top). rw (is_nan a p, no_nan b q) (nan_left (sign a) (sign b) (size a) (size b) (omega arith)))
+    (λ (q : top < size b). rw (is_nan_lem a p, is_nan_lem b q) (nans (sign a) (sign b) (size a) (size b) (nan_below b a) (nan_below a b) (nans_below b a q p) (nans_below a b p q)))
+    (λ (q : size b ≤ top). rw (is_nan_lem a p, no_nan b q) (nan_left (sign a) (sign b) (size a) (size b) (omega arith)))
     (side top (size b)))
     (λ (p : size a ≤ top). ⊎_elim
-    (λ (q : top < size b). rw (no_nan a p, is_nan b q) (nan_right (sign a) (sign b) (size a) (size b) (omega arith)))
+    (λ (q : top < size b). rw (no_nan a p, is_nan_lem b q) (nan_right (sign a) (sign b) (size a) (size b) (omega arith)))
     (λ (q : size b ≤ top). rw (no_nan a p, no_nan b q, number_lt a b p q, number_lt b a q p) (numbers (sign a) (sign b) (size a) (size b)))
     (side top (size b)))
     (side top (size a)))

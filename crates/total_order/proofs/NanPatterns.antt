@@ -10,8 +10,8 @@ use lib.Ieee.Bits.{nan_bits_is, nan_bits_above}
 abbrev pub top : ℕ
 top = 0x7ff0_0000_0000_0000
 
-pub is_nan : (b : ℕ) → top < b % 2 ^ 63 → nan_bits binary64 b ≡ true
-is_nan b h = nan_bits_above binary64 b ∙ lt-ltb top (b % 2 ^ 63) h
+pub is_nan_lem : (b : ℕ) → top < b % 2 ^ 63 → nan_bits binary64 b ≡ true
+is_nan_lem b h = nan_bits_above binary64 b ∙ lt-ltb top (b % 2 ^ 63) h
 
 pub no_nan : (b : ℕ) → b % 2 ^ 63 ≤ top → nan_bits binary64 b ≡ false
 no_nan b h = nan_bits_above binary64 b ∙ le-ltb top (b % 2 ^ 63) h
