@@ -329,8 +329,13 @@ class Text:
         if out[0] == "auto" and len(out) > 1 and out[1].isdigit() and callee:
             of = self.n.contracts.of(callee)
             muts = [p for p, t in (of[1] if of else []) if re.match(r"&\s*(?:'\w+\s+)?mut\s*\[", t)]
-            if int(out[1]) < len(muts):
-                out[1] = muts[int(out[1])]
+            k = 1
+            while k < len(out) and out[k] == "1":
+                k += 1
+            if k < len(out) and out[k] == "0" and k - 1 < len(muts):
+                out[1 : k + 1] = [muts[k - 1]]
+            else:
+                left(self.path, self.line, f"{'.'.join(out)} of {callee}: whose length?")
         if out[0] == "new" and len(out) > 1 and "-" in out[1]:
             out[1] = out[1].replace("-", "_")
         return out
@@ -343,6 +348,9 @@ class Text:
         if self.goal:
             self.f.places.add(new)
             return f"(goal.at.{self.goal} {self.var}).{new}"
+        if self.here:
+            self.f.places.update((new, self.n.new_place[self.here]))
+            return f"(goal.at.{self.n.new_place[self.here]} {self.var}).{new}"
         return None
 
     def walk(self, head, rest):
@@ -390,7 +398,7 @@ class Text:
             kind, place = self.walk(m[2], ["before"] * m[3].count(".before"))
             self.env[m[1]] = place
             before, after = text[: m.start()], text[m.end() :]
-            if self.goal and place != self.here and len(re.findall(r"(?<![^\s(){};,\[|])" + re.escape(m[1]) + r"(?![^\s(){};,\]|])", after)) > 1:
+            if self.here and place != self.here and len(re.findall(r"(?<![^\s(){};,\[|])" + re.escape(m[1]) + r"(?![^\s(){};,\]|])", after)) > 1:
                 # it is passed on: it stays, as the context of that place
                 self.passed[m[1]] = place
                 text = before + f"let {m[1]} = \x00{place}\x00 in" + m[0][m[0].rindex(" in") + 3 :] + after
@@ -406,6 +414,8 @@ class Text:
         out, at = [], 0
         base = self.line
         for m in PATH.finditer(text):
+            if m.start() < at:
+                continue
             head = m[1] or m[3]
             rest = re.findall(r"\.(«[^»]*»|" + W + r")", m[2]) if m[2] else []
             out.append(text[at : m.start()])
@@ -469,7 +479,37 @@ class Text:
                 left(self.path, self.line, m[0])
             out.append(m[0])
         out.append(text[at:])
-        return re.sub("\x00([^\x00]*)\x00", lambda m: self.at_place(m[1]), "".join(out))
+        text = re.sub("\x00([^\x00]*)\x00", lambda m: self.at_place(m[1]), "".join(out))
+        # the test of `!x` says now what that of x says
+        a_test = r"not-(?:true|false) _ (" + W + r"\.if-not-" + W + r"\.(?:true|false))(?![^\s(){};,\]|])"
+        text = re.sub(r"\(" + a_test + r"\)", r"\1", text)
+        text = re.sub(r"(?<![^\s(){};,\[|])" + a_test, r"\1", text)
+        return self.branches(text)
+
+    def branches(self, text):
+        """⊎_elim (λ w. A) (λ w. B) c.if-x.branch  ->  elim c.if-x.branch [ then-x w ↦ A | else-x w ↦ B ]"""
+        for m in reversed(list(re.finditer(r"⊎_elim\s+", text))):
+            i, args = m.end(), []
+            while len(args) < 2 and i < len(text) and text[i] == "(":
+                d, j = 0, i
+                while j < len(text):
+                    d += (text[j] == "(") - (text[j] == ")")
+                    j += 1
+                    if not d:
+                        break
+                args.append(text[i + 1 : j - 1].strip())
+                i = re.compile(r"\s*").match(text, j).end()
+            k = re.compile(r"(" + W + r")\.((?:if|match)-" + W + r")\.branch(?![^\s(){};,\]|])").match(text, i)
+            lams = [re.match(r"λ (" + W + r")\. (.*)", a, re.S) for a in args]
+            if not k or len(args) < 2:
+                continue
+            if k[2].startswith("match") or None in lams:
+                left(self.path, self.line, f"by hand: elim {k[0]} [ .. ], with the arms' names and fields that the check prints")
+                continue
+            of = k[2][3:]
+            self.f.places.update((f"then-{of}", f"else-{of}"))
+            text = text[: m.start()] + f"elim {k[0]} [ then-{of} {lams[0][1]} ↦ {lams[0][2].strip()} | else-{of} {lams[1][1]} ↦ {lams[1][2].strip()} ]" + text[k.end() :]
+        return text
 
 
 # ---------------------------------------------------------------- one file
@@ -709,13 +749,11 @@ class File:
                 if m:
                     ps = m[1].split()
                     body = " " + inner(body)[m.end() :]
-            if ps and ps[-1] in ("κs", "ks", "_") and len(ps) > 1:
-                if body is not None and ps[-1] in words(body):
-                    left(self.path, line, f"`{new}`: {ps[-1]} is used")
+            if len(ps) > 1 and (ps[1] == "κs" or "-requires" in new and ps[1] == "_"):
+                if body is not None and ps[1] in words(body) and ps[1] != "_":
+                    left(self.path, line, f"`{new}`: {ps[1]} is used")
                 else:
-                    ps = ps[:-1]
-            if len(ps) > 1:
-                left(self.path, line, f"`{new}` takes {' '.join(ps)}")
+                    ps = ps[:1] + ps[2:]
             if ps:
                 var = "c"
                 env[ps[0]] = at
@@ -996,7 +1034,6 @@ def substitute(body, sub, path, line):
         bind = lam and not re.search(r":[^)]*\Z", lam[0]) or re.search(r"\blet \Z", body[: m.start()]) or (re.match(r"[^():]*\s:\s", body[m.end() :]) and re.search(r"\((?:" + W + r"\s)*\Z", body[: m.start()]))
         if bind:
             shadow.append((w, depth if lam or "let" in body[max(0, m.start() - 5) : m.start()] else depth - 1))
-            left(path, line + body.count("\n", 0, m.start()), f"`{w}` is bound again in the invariant")
             continue
         if any(n == w for n, _ in shadow):
             continue

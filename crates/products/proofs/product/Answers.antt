@@ -11,7 +11,7 @@ use Rattle.products.proofs.product.Goals as goal
 use Rattle.products.proofs.product.Goals.{In-loop-c}
 
 -- a turn's columns end within b and within out
-ends : (c : In-loop-cinvariant-loop decreases-loop) → let a = c.args in let k = c.loop-c.c in (k * a.inner + a.inner ≤ a.cols * a.inner) × (k * a.rows + a.rows ≤ a.cols * a.rows)
+ends : (c : In-loop-c) → let a = c.args in let k = c.loop-c.c in (k * a.inner + a.inner ≤ a.cols * a.inner) × (k * a.rows + a.rows ≤ a.cols * a.rows)
 ends c =
     let a = c.args in
     let k = c.loop-c.c in

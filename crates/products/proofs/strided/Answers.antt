@@ -10,14 +10,14 @@ use Rattle.products.proofs.strided.Goals as goal
 use Rattle.products.proofs.strided.Goals.{Else-n-eq0, In-loop-k, Start}
 
 -- the elements of the product k are there: those of the first, and those of a turn
-abbrev Within : Startinvariant-loop decreases-loop → ℕ → Type 0
+abbrev Within : Start → ℕ → Type 0
 Within c k =
     (c.args.i + k * c.args.di < length c.args.a.now) × (c.args.j + k * c.args.dj < length c.args.b.now)
 
-first : (c : Else-n-eq0invariant-loop decreases-loop) → Within c.before 0
+first : (c : Else-n-eq0) → Within (goal.at.Else-n-eq0 c).Start 0
 first c = c.requires 0 (omega arith)
 
-turn : (c : In-loop-kinvariant-loop decreases-loop) → Within c.before.before.before.before.before c.loop-k.k
+turn : (c : In-loop-k) → Within (goal.at.In-loop-k c).Start c.loop-k.k
 turn c = c.requires c.loop-k.k c.loop-k-test.true
 
 pub returns-then-n-eq0 : goal.returns-then-n-eq0

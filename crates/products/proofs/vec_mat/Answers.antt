@@ -11,7 +11,7 @@ use Rattle.products.proofs.vec_mat.Goals as goal
 use Rattle.products.proofs.vec_mat.Goals.{In-loop-c}
 
 -- a turn's column ends within m
-ends : (c : In-loop-cinvariant-loop decreases-loop) → let a = c.args in c.loop-c.c * a.rows + a.rows ≤ length a.m.now
+ends : (c : In-loop-c) → let a = c.args in c.loop-c.c * a.rows + a.rows ≤ length a.m.now
 ends c = omega (arith, mul-le-mul_right c.args.rows c.loop-c-test.true)
 
 pub loop-c-preserved : goal.loop-c-preserved
@@ -27,7 +27,7 @@ pub overflow_mul-c : goal.overflow_mul-c
 overflow_mul-c c = omega (arith, ends c)
 
 pub strided-requires : goal.strided-requires
-strided-requires c κs k h = (omega arith, omega (arith, ends c))
+strided-requires c k h = (omega arith, omega (arith, ends c))
 
 pub returns : goal.returns
 returns c = filling_all 9 _ _ _ _ c.loop-c-test.false c.loop-c.invariant

@@ -1,8 +1,8 @@
 -- `square_root::guess27` meets its contract: each number fits. Assumes nothing.
-use Rattle.std.proofs.Common.{ℕ, ◌+◌, ◌-◌, ◌*◌, ◌/◌, ◌^◌, ◌<◌, ⊎_elim, arith, shr_lt, w64, Fits}
+use Rattle.std.proofs.Common.{ℕ, ◌+◌, ◌-◌, ◌*◌, ◌/◌, ◌^◌, ◌<◌, arith, shr_lt, w64, Fits}
 use Rattle.square_root.proofs.Products.{mul-lt-pow, product}
 use Rattle.square_root.proofs.guess27.Goals as goal
-use Rattle.square_root.proofs.guess27.Goals.{Joined-g-n}
+use Rattle.square_root.proofs.guess27.Goals.{Joined-g-n, else-g-n, then-g-n}
 
 pub overflow_mul-g : goal.overflow_mul-g
 overflow_mul-g c = product (shr_lt 32 22 c.requires) c.inverse_root-y.ensures
@@ -15,7 +15,7 @@ pub overflow_mul-g-2 : goal.overflow_mul-g-2
 overflow_mul-g-2 c = let g = guess_lt c.args.n c.inverse_root-y.result c.requires c.inverse_root-y.ensures in product g g
 
 rest_lt : (c : Joined-g-n) → c.if-g-n.rest < 2 ^ 54
-rest_lt c = ⊎_elim (λ w. omega arith) (λ w. omega arith) c.if-g-n.branch
+rest_lt c = elim c.if-g-n.branch [ then-g-n w ↦ omega arith | else-g-n w ↦ omega arith ]
 
 pub overflow_mul-h : goal.overflow_mul-h
 overflow_mul-h c = product (shr_lt 32 22 (rest_lt (goal.at.overflow_mul-h c).Joined-g-n)) c.inverse_root-y.ensures

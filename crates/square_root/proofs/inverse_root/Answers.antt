@@ -1,16 +1,16 @@
 -- `square_root::inverse_root` meets its contract: each number fits. Assumes nothing.
-use Rattle.std.proofs.Common.{ℕ, ◌-◌, ◌*◌, ◌/◌, ◌^◌, ◌<◌, ◌≤◌, ⊎_elim, lt_of_lt_of_le, arith, lit≤, shr_lt}
+use Rattle.std.proofs.Common.{ℕ, ◌-◌, ◌*◌, ◌/◌, ◌^◌, ◌<◌, ◌≤◌, lt_of_lt_of_le, arith, lit≤, shr_lt}
 use lib.Bits.{mask_lt}
 use mir.Facts.{Fits-bits}
 use Rattle.square_root.proofs.Products.{mul-lt-pow, product}
 use Rattle.square_root.proofs.inverse_root.Goals as goal
-use Rattle.square_root.proofs.inverse_root.Goals.{Joined-t-lt2147483648}
+use Rattle.square_root.proofs.inverse_root.Goals.{Joined-t-lt2147483648, else-t-lt2147483648, then-t-lt2147483648}
 
 abbrev step : (t y : ℕ) → ℕ
 step t y = 0x1_3000_0000 - t * (y * y) / 2 ^ 32
 
 y_lt : (c : Joined-t-lt2147483648) → c.if-t-lt2147483648.y < 2 ^ 16
-y_lt c = ⊎_elim (λ w. omega arith) (λ w. omega arith) c.if-t-lt2147483648.branch
+y_lt c = elim c.if-t-lt2147483648.branch [ then-t-lt2147483648 w ↦ omega arith | else-t-lt2147483648 w ↦ omega arith ]
 
 square-lt : (c : Joined-t-lt2147483648) → c.if-t-lt2147483648.y * c.if-t-lt2147483648.y < 2 ^ 32
 square-lt c = mul-lt-pow 16 16 (y_lt c) (y_lt c)

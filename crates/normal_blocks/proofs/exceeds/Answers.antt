@@ -1,0 +1,16 @@
+-- `normal_blocks::exceeds` meets its contract: the offset is compared with the room that the width leaves. Assumes nothing.
+use Rattle.normal_blocks.specs.Map.{exceeds}
+use Rattle.normal_blocks.specs.Laws.{exceeds-wide, exceeds_room}
+use Rattle.normal_blocks.proofs.exceeds.Goals as goal
+
+pub returns-then-n-width : goal.returns-then-n-width
+unfolding exceeds
+returns-then-n-width c = rw c.in-At.is (exceeds-wide _ _ _ c.if-n-width.true)
+
+pub returns-else-n-width : goal.returns-else-n-width
+unfolding exceeds
+returns-else-n-width c = rw c.in-At.is (exceeds_room _ _ _ c.if-n-width.false)
+
+pub returns-in-Unmapped : goal.returns-in-Unmapped
+unfolding exceeds
+returns-in-Unmapped c = rw c.in-Unmapped.is
