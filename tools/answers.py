@@ -253,7 +253,7 @@ def used(uses, body):
 class Names:
     def __init__(self, of, fn, contracts):
         self.fn, self.contracts = fn, contracts
-        self.places, self.clauses = {}, {}
+        self.places, self.clauses, self.arms = {}, {}, {}
         self.by_norm = {}
         self.new_place = {}
         for i, p in enumerate(of["places"]):
@@ -263,6 +263,7 @@ class Names:
             self.new_place[name] = of["places_by_name"][i]
             it = (of.get("clauses") or [None] * (i + 1))[i]
             self.clauses[name] = (it or {}).get("fields") or None
+            self.arms[name] = (of.get("arms") or [None] * (i + 1))[i]
         self.needs = of["needs"]
         self.asked_at = of["asked_at"]
         self.loops = of["loops"]
@@ -272,6 +273,21 @@ class Names:
 
     def place(self, old):
         return self.by_norm.get(norm(old))
+
+    def in_arm(self, goal_at, rest):
+        """A field of an arm, which is one step now: its step, field and the rest; else None."""
+        p, best = goal_at, None
+        while p is not None:
+            if self.arms[p]:
+                step, _, fields = self.arms[p]
+                for new, old, path in fields:
+                    n = 1 + len(path)
+                    if norm(old) == norm(rest[0]) and rest[1:n] == path and not new.endswith("-own") and (best is None or n > best[0]):
+                        best = (n, step, new)
+                if best:
+                    return best
+            p = self.up(p)
+        return None
 
     def of_source(self, place):
         """The nearest place at or above that is named after the source."""
@@ -376,13 +392,24 @@ class Text:
                     tail = [f] + ([rest[1].replace("-", "_")] if len(rest) > 1 else []) + rest[2:]
                 return "text", ".".join([self.var] + tail)
             return "text", ".".join([self.var, norm(f)] + rest[1:])
+        arm = self.n.in_arm(self.here, rest)
+        if arm:
+            n, step, new = arm
+            tail = rest[n:]
+            if new == "ensures":
+                old = self.n.step(at, self.here, f)
+                tail = self.fields(["ensures"] + tail, old)[1:] if old else tail
+            return "text", ".".join([self.var, step, new] + tail)
         step = self.n.step(at, self.here, f)
         if step is None:
             if norm(f) == "type_inv":
                 return "text", ".".join([self.var, "type_inv"] + rest[1:])
             left(self.path, self.line, f"no step `{f}` at or above `{at}`: {head}.{'.'.join(rest)}")
             return "text", ".".join([self.var] + rest)
-        return "text", ".".join([self.var, self.n.places[step][2]] + self.fields(rest[1:], step))
+        tail = self.fields(rest[1:], step)
+        if tail and re.match(r"loop", self.n.places[step][1]) and tail[0] not in ("true", "false"):
+            tail[0] = self.of_loop(tail[0])
+        return "text", ".".join([self.var, self.n.places[step][2]] + tail)
 
     def aliases(self, text):
         """Takes out `let x = PATH in` where PATH is a place, and remembers x."""
@@ -398,7 +425,7 @@ class Text:
             kind, place = self.walk(m[2], ["before"] * m[3].count(".before"))
             self.env[m[1]] = place
             before, after = text[: m.start()], text[m.end() :]
-            if self.here and place != self.here and len(re.findall(r"(?<![^\s(){};,\[|])" + re.escape(m[1]) + r"(?![^\s(){};,\]|])", after)) > 1:
+            if self.here and place != self.here and len(re.findall(r"(?<!let )(?<![^\s(){};,\[|])" + re.escape(m[1]) + r"(?![^\s(){};,\]|])", after)) > 1:
                 # it is passed on: it stays, as the context of that place
                 self.passed[m[1]] = place
                 text = before + f"let {m[1]} = \x00{place}\x00 in" + m[0][m[0].rindex(" in") + 3 :] + after
@@ -408,9 +435,17 @@ class Text:
                 after = m[4] + after
             text = before + after
 
+    def of_loop(self, name):
+        """A variable's name, where a loop or a parameter has it by another dash."""
+        every = {norm(v): v for _, vs in self.n.loops for v in vs}
+        return every.get(norm(name), name)
+
     def turn(self, text):
         if self.var in self.env:
             text = self.aliases(text)
+        holders = {}
+        for m in re.finditer(r"\blet (" + W + r") = (?:" + W + r"\.)*(args|loop\d*|loop-" + W + r"|new) in\b", text):
+            holders[m[1]] = m[2]
         out, at = [], 0
         base = self.line
         for m in PATH.finditer(text):
@@ -426,6 +461,10 @@ class Text:
                 self.f.places.add(self.f.rename[head])
             if head in self.f.rename and not re.search(r"(?:\blet|λ(?: " + W + r")*) \Z", before) and not (head in self.env):
                 out.append(".".join([self.f.rename[head]] + rest))
+                continue
+            if head in holders and head not in self.env and rest and "-" in rest[0]:
+                rest[0] = rest[0].replace("-", "_") if holders[head] in ("args", "new") else self.of_loop(rest[0])
+                out.append(".".join([head] + rest))
                 continue
             if head in self.env:
                 if text.startswith(".", m.end()) and re.search(r"λ[^.]*\Z", before):
@@ -471,7 +510,7 @@ class Text:
                         out.append(m[0])
                         left(self.path, self.line, m[0])
                 # its arguments: invariants and measures
-                more = re.match(r"(?: (?:invariant|decreases)-loop\w*)+", text[at:])
+                more = re.match(r"(?:\s+(?:(?:invariant|decreases)-loop\w*|reads\.(?:Pre|Post)|\([^()]*\.Asked[^()]*\)))+", text[at:])
                 if more:
                     at += more.end()
                 continue
@@ -614,7 +653,8 @@ def tuple_parts(body):
 
 def same_need(typed, old):
     """Need-overflow-mul-q of the old files is mul-q in the list."""
-    return re.sub(r"^(overflow|nonzero|bounds|offset_bounds|slice_bounds)_", "", norm(typed)) == re.sub(r"^(overflow|nonzero)_", "", norm(old))
+    plain = lambda s: re.sub(r"^(overflow|nonzero|bounds|offset_bounds|slice_bounds|part)_", "", norm(s))
+    return plain(typed) == plain(old)
 
 
 class File:
@@ -750,10 +790,14 @@ class File:
                     ps = m[1].split()
                     body = " " + inner(body)[m.end() :]
             if len(ps) > 1 and (ps[1] == "κs" or "-requires" in new and ps[1] == "_"):
+                if body is not None and ps[1] != "_":
+                    # another answer takes no lifetimes any more either
+                    other = r"(?<![^\s(){};,\[])((?:" + "|".join(map(re.escape, self.need_names)) + r")(?: [^\s()]+| \([^()]*\)))\s+" + ps[1] + r"(?![^\s(){};,\]|])"
+                    body = re.sub(other, r"\1", body) if self.need_names else body
                 if body is not None and ps[1] in words(body) and ps[1] != "_":
-                    left(self.path, line, f"`{new}`: {ps[1]} is used")
-                else:
-                    ps = ps[:1] + ps[2:]
+                    left(self.path, line, f"`{new}`: {ps[1]} is used: c.lifetimes?")
+                    body = re.sub(r"(?<![^\s(){};,\[])" + ps[1] + r"(?![^\s(){};,\]|.])", "c.lifetimes", body)
+                ps = ps[:1] + ps[2:]
             if ps:
                 var = "c"
                 env[ps[0]] = at
@@ -866,6 +910,7 @@ class File:
             m = re.search(r"\s:\s*\(?(?:tie|lts)\.Need-(" + W + r")", split_decl(d)[0] or "")
             if m:
                 typed[d.name] = m[1]
+        self.need_names = sorted(typed, key=len, reverse=True)
         todo = {}  # need index -> ('decl', d) or ('lambda', text)
         if len(goals) == len(self.n.needs):
             for i, a in enumerate(goals):
@@ -1051,9 +1096,11 @@ def write(path, text):
 # ---------------------------------------------------------------- crates
 
 def names_of(root, crate):
-    out = f"/tmp/answers-names-{os.getuid()}/{crate}"
+    out = f"/tmp/answers-names-{os.getuid()}{root.replace(os.sep, '-')}/{crate}"
     os.makedirs(out, exist_ok=True)
     at = os.path.join(out, "names.json")
+    if os.path.exists(at):
+        os.remove(at)
     r = subprocess.run(["rt", "check", "--generated", out, "--old-names"], cwd=os.path.join(root, "crates", crate), capture_output=True, text=True)
     if not os.path.isfile(at):
         print(r.stdout[-3000:] + r.stderr[-1000:])

@@ -1,6 +1,6 @@
 -- An accepted push or merge of whole counts is exact, where the sum is not below -2^53: there numbers are as coarse as above 2^53, and document 02 refuses nothing. A refused push
 -- would not be exact, and a merge is refused exactly if one of as many pushes would be. Assumes nothing.
-use Prim.Native.Nat.{ℕ, zero, suc, ◌+◌, ◌-◌, ◌*◌, ◌^◌, ◌≤◌, ◌<◌}
+use Prim.Native.Nat.{ℕ, zero, suc, ◌+◌, ◌*◌, ◌^◌, ◌≤◌, ◌<◌}
 use mathlib.Core.Path.{◌≡◌, refl, sym, ap, ◌∙◌}
 use mathlib.Core.Bool.{Bool, true, false, ◌||◌}
 use native.Mathlib.Omega.{arith}

@@ -2,7 +2,7 @@
 use Prim.Native.Nat.{ℕ, zero, suc, ◌+◌, ◌<◌}
 use Rattle.std.specs.Prelude.{◌≡◌, Bool, true, false, ◌||◌}
 use Rattle.std.proofs.Math.Path.{refl, ap}
-use Rattle.std.proofs.Common.{sym, subst, ◌∙◌, true≢false, not-suc-le-zero, eq-or-lt_of_le, le_of_suc-le-suc, add-one}
+use Rattle.std.proofs.Common.{sym, ◌∙◌, true≢false, not-suc-le-zero, eq-or-lt_of_le, le_of_suc-le-suc, add-one}
 use Rattle.std.proofs.Math.Bool.{or-true}
 use Rattle.std.proofs.Math.Logic.{⊎_elim}
 

@@ -4,7 +4,7 @@ use mathlib.Core.Path.{◌≡◌, refl, ◌∙◌, ap}
 use mathlib.Core.List.{List}
 use lib.IntN.{pos}
 use lib.Ieee.{Float}
-use Rattle.sums.specs.Sum.{◌⊗◌, column}
+use Rattle.sums.specs.Sum.{column}
 use Rattle.sums.specs.Laws.{⊗_comm}
 use Rattle.lists.specs.Part.{◌!◌}
 use Rattle.counts.specs.Whole.{float_of}

@@ -1,5 +1,5 @@
 -- Lists that a loop fills: what holds of each number before place i, and of those put there, holds of each before place i + 1. Assumes nothing.
-use Rattle.std.proofs.Common.{◌≡◌, ℕ, ◌+◌, ◌<◌, List, length, get_or, set, sym, subst, arith, get_or-set_other, get_or-set_same, below_more}
+use Rattle.std.proofs.Common.{◌≡◌, ℕ, ◌+◌, ◌<◌, List, length, get_or, set, arith, get_or-set_other, get_or-set_same, below_more}
 
 module _ {A B : Type 0} (d : A) (e : B) (P : ℕ → A → B → Type 0) (l : List A) (m : List B) (i : ℕ) (v : A) (w : B) where
   pub both_more : i < length l → i < length m → P i v w → ((k : ℕ) → k < i → P k (get_or l k d) (get_or m k e)) → (k : ℕ) → k < i + 1 → P k (get_or (set l i v) k d) (get_or (set m i w) k e)

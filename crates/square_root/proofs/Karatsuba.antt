@@ -1,6 +1,6 @@
 -- A root's lower half of digits from its upper half, after Zimmermann. n is s * s + r, with s the whole part of its root; b is the base, and s has its leading digit set: b ≤ 2 * s.
 -- With r * b ≡ q * (2 * s) + u and u < 2 * s, the whole part of the root of n * (b * b) is s * b + q, or one less where u * b < q * q. Assumes nothing.
-use Rattle.std.proofs.Common.{◌≡◌, ℕ, ◌+◌, ◌-◌, ◌*◌, ◌<◌, ◌≤◌, sym, refl, ap, ◌∙◌, subst, zero-le, le_trans, le_of_eq, lt_of_le_of_lt, le_of_lt, add_assoc, mul-le-mul_right, mul_assoc, mul_comm, add-mul, mul-le-mul, add_comm, mul-lt-mul_of_pos_right, mul-one, mul-add, le_of_mul-le-mul_right, mul_left_comm, two-mul, arith}
+use Rattle.std.proofs.Common.{◌≡◌, ℕ, ◌+◌, ◌*◌, ◌<◌, ◌≤◌, sym, refl, ap, ◌∙◌, subst, zero-le, le_trans, le_of_eq, lt_of_le_of_lt, le_of_lt, add_assoc, mul-le-mul_right, mul_assoc, mul_comm, add-mul, mul-le-mul, add_comm, mul-lt-mul_of_pos_right, mul-one, mul-add, le_of_mul-le-mul_right, mul_left_comm, two-mul, arith}
 use native.Mathlib.Nat.{add_left_comm}
 use Rattle.square_root.specs.Steps.{Root}
 

@@ -1,5 +1,4 @@
 -- `bundle_points::add_points` meets its contract: point after point. Assumes nothing.
-use Prim.Native.Nat.{◌-◌}
 use mathlib.Core.Path.{◌≡◌, refl}
 use native.Mathlib.Omega.{arith}
 use Rattle.sums.specs.Laws.{sum_from_more}

@@ -1,5 +1,4 @@
 -- `derivative::normal_row` meets its contract: after c turns the first c numbers are there. Assumes nothing.
-use Prim.Native.Nat.{◌-◌}
 use borrow.Author.Rules.{rules}
 use Rattle.sums.specs.Fill.{filling_none, filling_more, filling_all}
 use Rattle.derivative.specs.Derivative.{normal_row}

@@ -1,5 +1,4 @@
 -- `lists::clear` meets its contract: after k turns the first k numbers are +0. Assumes nothing.
-use Prim.Native.Nat.{◌-◌}
 use mathlib.Core.Path.{◌≡◌, refl, sym, ◌∙◌}
 use native.Mathlib.Omega.{arith}
 use lib.ListN.{length, replicate, length-set, length-replicate, get_or-replicate}

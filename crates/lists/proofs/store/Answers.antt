@@ -1,5 +1,4 @@
 -- `lists::store` meets its contract: after k turns the first k numbers are those of `from`. Assumes nothing.
-use Prim.Native.Nat.{◌-◌}
 use mathlib.Core.Path.{◌≡◌, refl}
 use native.Mathlib.Omega.{arith}
 use borrow.Author.Rules.{rules}

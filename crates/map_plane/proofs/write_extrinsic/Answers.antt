@@ -1,5 +1,4 @@
 -- `map_plane::write_extrinsic` meets its contract: column after column. Assumes nothing.
-use Prim.Native.Nat.{◌-◌}
 use Rattle.sums.specs.Fill.{writing_none, writing_more, writing_all}
 use borrow.Author.Rules.{rules}
 use Rattle.map_plane.proofs.write_extrinsic.Goals as goal

@@ -1,10 +1,8 @@
 -- `map_plane::write_state` meets its contract: column after column. Assumes nothing.
-use Prim.Native.Nat.{◌-◌}
 use mathlib.Core.Path.{◌≡◌}
 use native.Mathlib.Nat.{not-suc-le-zero}
 use native.Mathlib.Omega.{arith}
 use Rattle.sums.specs.Fill.{first_more}
-use Rattle.map_plane.specs.Linearize.{state_column}
 use borrow.Author.Rules.{rules}
 use Rattle.map_plane.proofs.write_state.Goals as goal
 

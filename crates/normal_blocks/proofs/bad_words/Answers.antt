@@ -1,5 +1,4 @@
 -- `normal_blocks::bad_words` meets its contract: after k turns the flag says whether one of the first k words is bad. Assumes nothing.
-use Prim.Native.Nat.{◌-◌}
 use mathlib.Core.Path.{◌≡◌, sym}
 use native.Mathlib.Omega.{arith}
 use borrow.Author.Rules.{rules}

@@ -1,7 +1,6 @@
 -- `normal_blocks::write_remapped` meets its contract: after k turns the first k words are those of the remapped map. Assumes nothing.
 use borrow.Author.Rules.{rules}
 use native.Mathlib.Omega.{arith}
-use Prim.Native.Nat.{◌-◌}
 use mathlib.Core.Path.{◌≡◌}
 use lib.ListN.{length, length-set}
 use Rattle.normal_blocks.specs.Laws.{remapped_more, remapped_all}

@@ -1,5 +1,4 @@
 -- `point_sums::further` meets its contract: at turn i the sums are those of the first i points. Assumes nothing.
-use Prim.Native.Nat.{◌-◌}
 use mathlib.Core.Path.{◌≡◌}
 use native.Mathlib.Omega.{arith}
 use native.Mathlib.Numerals.{add-one}

@@ -1,5 +1,4 @@
 -- `products::column` meets its contract: after r turns the first r numbers are there. Assumes nothing.
-use Prim.Native.Nat.{◌-◌}
 use native.Mathlib.Omega.{arith}
 use mathlib.Core.Path.{◌∙◌}
 use borrow.Author.Rules.{rules}

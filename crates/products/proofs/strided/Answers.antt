@@ -1,5 +1,5 @@
 -- `products::strided` meets its contract: after k turns the sum is that of the first k products. Assumes nothing.
-use Prim.Native.Nat.{ℕ, ◌<◌, ◌-◌, ◌*◌, ◌+◌}
+use Prim.Native.Nat.{ℕ, ◌<◌, ◌*◌, ◌+◌}
 use native.Mathlib.Nat.{zero-mul, add-zero}
 use native.Mathlib.Omega.{arith}
 use mathlib.Core.Path.{◌≡◌}

@@ -1,5 +1,5 @@
 -- `square_root::guess27` meets its contract: each number fits. Assumes nothing.
-use Rattle.std.proofs.Common.{ℕ, ◌+◌, ◌-◌, ◌*◌, ◌/◌, ◌^◌, ◌<◌, arith, shr_lt, w64, Fits}
+use Rattle.std.proofs.Common.{ℕ, ◌+◌, ◌*◌, ◌/◌, ◌^◌, ◌<◌, arith, shr_lt, w64, Fits}
 use Rattle.square_root.proofs.Products.{mul-lt-pow, product}
 use Rattle.square_root.proofs.guess27.Goals as goal
 use Rattle.square_root.proofs.guess27.Goals.{Joined-g-n, else-g-n, then-g-n}

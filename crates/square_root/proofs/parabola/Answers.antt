@@ -1,5 +1,5 @@
 -- `square_root::parabola` meets its contract. Assumes nothing.
-use Rattle.std.proofs.Common.{ℕ, ◌-◌, ◌*◌, ◌/◌, ◌^◌, ◌<◌, ◌≤◌, le_trans, le_of_eq, lt_of_le_of_lt, le_of_lt, mul-le-mul_right, mul_comm, div-lt_iff_lt-mul, mul-le-mul_left, sub-le, arith, pow_pos}
+use Rattle.std.proofs.Common.{ℕ, ◌*◌, ◌/◌, ◌^◌, ◌<◌, ◌≤◌, le_trans, le_of_eq, lt_of_le_of_lt, le_of_lt, mul-le-mul_right, mul_comm, div-lt_iff_lt-mul, mul-le-mul_left, sub-le, arith, pow_pos}
 use Rattle.square_root.proofs.Products.{product}
 use Rattle.square_root.proofs.parabola.Goals as goal
 

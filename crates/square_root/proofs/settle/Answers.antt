@@ -1,5 +1,5 @@
 -- `square_root::settle` meets its contract: r rises while the next square is at most n, below 2 ^ 27 as n is below 2 ^ 54. Assumes nothing.
-use Rattle.std.proofs.Common.{ℕ, ◌+◌, ◌-◌, ◌*◌, ◌^◌, ◌<◌, ◌≤◌, le_trans, lt_of_not-le, not-le_of_lt, arith}
+use Rattle.std.proofs.Common.{ℕ, ◌+◌, ◌*◌, ◌^◌, ◌<◌, ◌≤◌, le_trans, lt_of_not-le, not-le_of_lt, arith}
 use Rattle.square_root.proofs.Karatsuba.{squares}
 use Rattle.square_root.proofs.Products.{square_fits}
 use Rattle.square_root.proofs.settle.Goals as goal

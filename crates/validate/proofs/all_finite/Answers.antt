@@ -1,5 +1,4 @@
 -- `validate::all_finite` meets its contract: after k turns what is found so far and the rest of the list decide. Assumes nothing.
-use Prim.Native.Nat.{◌-◌}
 use mathlib.Core.Path.{◌≡◌, sym, ◌∙◌}
 use native.Mathlib.Omega.{arith}
 use borrow.Author.Rules.{rules}

@@ -1,5 +1,4 @@
 -- `normal_blocks::target::add_run` meets its contract: after r turns the first r numbers are added. Assumes nothing.
-use Prim.Native.Nat.{◌-◌}
 use mathlib.Core.Path.{refl}
 use native.Mathlib.Omega.{arith}
 use borrow.Author.Rules.{rules}

@@ -1,5 +1,5 @@
 -- `square_root::many::fill_digits` meets its contract: after k turns the digits of the first k numbers are there. Assumes nothing.
-use Rattle.std.proofs.Common.{◌≡◌, ℕ, ◌-◌, ◌<◌, get_or, arith, length-set, rules}
+use Rattle.std.proofs.Common.{◌≡◌, ℕ, ◌<◌, get_or, arith, length-set, rules}
 use lib.Ieee.{nan}
 use Rattle.square_root.specs.Many.{digits_of}
 use Rattle.square_root.proofs.Filled.{one_more}

@@ -1,5 +1,5 @@
 -- `square_root::many::fill_guesses` meets its contract: after k turns the first k guesses are there, and the other digits as they were. Assumes nothing.
-use Rattle.std.proofs.Common.{ℕ, ◌-◌, ◌<◌, get_or, refl, ◌∙◌, subst, arith, length-set, get_or-set_other, rules}
+use Rattle.std.proofs.Common.{ℕ, ◌<◌, get_or, refl, ◌∙◌, subst, arith, length-set, get_or-set_other, rules}
 use Rattle.square_root.specs.Many.{Told}
 use Rattle.square_root.proofs.Filled.{both_more}
 use Rattle.square_root.proofs.many.fill_guesses.Goals as goal

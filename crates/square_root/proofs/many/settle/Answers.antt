@@ -1,5 +1,5 @@
 -- `square_root::many::settle` meets its contract: after k turns the first k numbers are roots, and the others as they were. Assumes nothing.
-use Rattle.std.proofs.Common.{◌≡◌, ℕ, ◌-◌, ◌<◌, get_or, sym, refl, ap, ◌∙◌, subst, arith, length-set, get_or-set_other, rules}
+use Rattle.std.proofs.Common.{◌≡◌, ℕ, ◌<◌, get_or, sym, refl, ap, ◌∙◌, subst, arith, length-set, get_or-set_other, rules}
 use lib.Ieee.{Float, nan}
 use Rattle.square_root.specs.Computed.{square_root}
 use Rattle.square_root.specs.Many.{digits_of, Told}

@@ -1,5 +1,5 @@
 -- `square_root::many::settled` meets its contract: `Cases.antt`. Assumes nothing.
-use Rattle.std.proofs.Common.{◌≡◌, ℕ, ◌+◌, ◌*◌, ◌/◌, ◌%◌, ◌^◌, ◌<◌, ◌≤◌, false, T, sym, subst, arith}
+use Rattle.std.proofs.Common.{◌≡◌, ℕ, ◌+◌, ◌*◌, ◌/◌, ◌%◌, ◌^◌, ◌<◌, ◌≤◌, T, sym, subst, arith}
 use lib.Ieee.{binary64, fits, to_bits}
 use Rattle.square_root.specs.Many.{pattern_digits, digits_of}
 use Rattle.square_root.specs.Steps.{Root}

@@ -1,0 +1,7 @@
+-- `match_rows::row_at` meets its contract. Assumes nothing.
+use Rattle.match_rows.specs.ByRows.{row_by_at}
+use Rattle.match_rows.proofs.row_at.Goals as goal
+
+pub returns : goal.returns
+unfolding row_by_at
+returns c = c.row_by.ensures
