@@ -1,0 +1,14 @@
+use Prim.Native.Nat.{◌≤◌, ◌-◌, ◌+◌}
+use mathlib.Core.Path.{◌≡◌}
+use lib.ListN.{length}
+use Rattle.sums.specs.Sum.{zero_f, sum_from}
+use Rattle.match_sums.specs.Groups.{cost_term, block_term, vector_term}
+use Rattle.match_sums.specs.Cells.{Summed}
+use Rattle.match_sums.proofs.add_group.Given as goal
+
+abbrev pub invariant-loop-i : goal.invariant-loop-i
+invariant-loop-i l =
+    (l.i ≤ l.size) × (length l.h ≡ 81) × (length l.g ≡ 9) × (length l.infos ≡ 16) × (length l.residuals ≡ 16) × (l.cost ≡ sum_from zero_f l.i (λ k. cost_term l.x l.list (l.from + k))) × Summed l.dof l.i (λ i j k. block_term l.x l.list i j (l.from + k)) (λ i k. vector_term l.x l.list i (l.from + k)) l.initial.h l.initial.g l.h l.g
+
+abbrev pub decreases-loop-i : goal.decreases-loop-i
+decreases-loop-i l = l.size - l.i

@@ -1,0 +1,23 @@
+-- `match_sums::add_numbers` meets its contract: number after number. Assumes nothing.
+use Rattle.lists.specs.Part.{◌!◌}
+use Prim.Native.Nat.{◌-◌}
+use mathlib.Core.Path.{◌≡◌, refl}
+use native.Mathlib.Omega.{arith}
+use lib.ListN.{length}
+use Rattle.match_sums.specs.Laws.{raised_none, raised_at}
+use borrow.Author.Rules.{rules}
+use Rattle.match_sums.proofs.add_numbers.Goals as goal
+
+pub loop-i-init : goal.loop-i-init
+loop-i-init c = (search rules, search rules, raised_none _ _ _)
+
+pub loop-i-preserved : goal.loop-i-preserved
+loop-i-preserved c =
+    let at = c.loop-i in
+    let b = c.args.b.now in
+    (search rules, search rules, raised_at at.i (λ k. b ! k) _ at.a _ (omega arith) refl at.invariant.2)
+
+pub returns : goal.returns
+returns c =
+    let e : c.loop-i.i ≡ length c.args.b.now = omega arith in
+    rw e at c.loop-i.invariant.2

@@ -1,0 +1,26 @@
+-- `match_sums::add_row` meets its contract: column after column. Assumes nothing.
+use Rattle.lists.specs.Part.{◌!◌}
+use Prim.Native.Nat.{◌-◌}
+use mathlib.Core.Path.{◌≡◌, refl}
+use native.Mathlib.Omega.{arith}
+use Rattle.sums.specs.Sum.{◌⊗◌}
+use Rattle.match_sums.specs.Laws.{raised_none, raised_at, upper_none, upper_more, added_all}
+use borrow.Author.Rules.{rules}
+use Rattle.match_sums.proofs.add_row.Goals as goal
+
+pub loop-c-init : goal.loop-c-init
+loop-c-init c = (search rules, search rules, search rules, upper_none _ _, raised_none _ _ _)
+
+pub loop-c-preserved : goal.loop-c-preserved
+loop-c-preserved c =
+    let at = c.loop-c in
+    let a = c.args in
+    let up = upper_more at.c (λ i. a.row.now ! i) _ at.h _ (omega arith) at.invariant.3 c.add_column.ensures in
+    (search rules, omega (arith, c.add_column.ensures.size), search rules, up, raised_at at.c (λ i. a.row.now ! i ⊗ a.r) _ at.g _ (omega arith) refl at.invariant.4)
+
+pub returns : goal.returns
+returns c =
+    let at = c.loop-c in
+    let a = c.args in
+    let e : at.c ≡ a.width = omega arith in
+    added_all (λ i. a.row.now ! i) a.r a.width _ _ _ _ (rw e at at.invariant.3) (rw e at at.invariant.4)
