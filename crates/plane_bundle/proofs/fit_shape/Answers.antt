@@ -1,0 +1,26 @@
+-- `plane_bundle::fit_shape` meets its contract: the tests in their order. Assumes nothing.
+use mathlib.Core.Path.{sym, ap, ◌∙◌}
+use mathlib.Core.Bool.{not}
+use borrow.Author.Tests.{eq-eqb, ne_eqb}
+use Rattle.plane_bundle.specs.Steps.{shape_refusal}
+use Rattle.plane_bundle.proofs.Laws.{counts_by}
+use Rattle.plane_bundle.proofs.fit_shape.Goals as goal
+
+pub returns-then-counts-eq0 : goal.returns-then-counts-eq0
+unfolding shape_refusal
+returns-then-counts-eq0 c = rw (eq-eqb _ _ c.if-counts-eq0.true)
+
+pub returns-then-bad_points : goal.returns-then-bad_points
+unfolding shape_refusal
+returns-then-bad_points c =
+    rw (ne_eqb _ _ c.if-counts-eq0.false, sym c.bad_points.ensures ∙ c.if-bad_points.true)
+
+pub returns-then-out-ne12 : goal.returns-then-out-ne12
+unfolding shape_refusal
+returns-then-out-ne12 c =
+    rw (ne_eqb _ _ c.if-counts-eq0.false, sym c.bad_points.ensures ∙ c.if-bad_points.false, ne_eqb _ _ c.if-out-ne12.true)
+
+pub returns : goal.returns
+returns c =
+    let a = c.args in
+    c.count_refusal.ensures ∙ counts_by a.counts.now a.points.now a.fixed.now (sym c.bad_points.ensures ∙ c.if-bad_points.false) _ (ap not (eq-eqb _ _ c.if-out-ne12.false)) (ne_eqb _ _ c.if-counts-eq0.false)
