@@ -1,0 +1,24 @@
+-- `frame_pairs::put` meets its contract: after i turns the first i numbers are put. Assumes nothing.
+use Prim.Native.Nat.{◌-◌}
+use mathlib.Core.Path.{◌≡◌, refl}
+use native.Mathlib.Omega.{arith}
+use borrow.Author.Rules.{rules}
+use Rattle.frame_pairs.proofs.Lanes.{put-none, put_more}
+use Rattle.frame_pairs.proofs.put.Goals as goal
+
+pub loop-i-preserved : goal.loop-i-preserved
+loop-i-preserved c =
+    let l = c.loop-i in
+    (search rules, put_more _ _ _ _ l.i l.cells _ (search rules) (search rules) refl l.invariant.1)
+
+pub returns : goal.returns
+returns c =
+    let l = c.loop-i in
+    let e : l.i ≡ c.args.width = omega arith in
+    rw e at l.invariant.1
+
+pub loop-i-init : goal.loop-i-init
+loop-i-init c = (search rules, put-none _ _ _ _)
+
+pub bounds-cells-e : goal.bounds-cells-e
+bounds-cells-e c = omega (arith, c.loop-i.invariant.1.long)
