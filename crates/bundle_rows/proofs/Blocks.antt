@@ -16,8 +16,8 @@ use Rattle.sums.specs.Laws.{length-grid, grid-same, grid-column, tab-get_or, cel
 use Rattle.sums.specs.Fill.{written, Columns, column_ends}
 use Rattle.lists.specs.Part.{◌!◌}
 use Rattle.terms.specs.Terms.{cell_of, within}
-use Rattle.terms.specs.Cells.{in_within}
-use Rattle.terms.specs.Places.{row_is, column_is, grid_of_cells}
+use Rattle.terms.proofs.Cells.{in_within}
+use Rattle.terms.proofs.Places.{row_is, column_is, grid_of_cells}
 use Rattle.bundle_rows.specs.Rows.{total, start, in_frame, frame_cell, jacobian_cell}
 use Rattle.bundle_rows.specs.Steps.{state_cell, Put}
 

@@ -13,8 +13,8 @@ use borrow.Author.Tests.{ltb-true, ltb-false, eqb-true, eqb-false}
 use Rattle.sums.specs.Laws.{cell}
 use Rattle.lists.specs.Part.{◌!◌}
 use Rattle.terms.specs.Terms.{cell_of, within}
-use Rattle.terms.specs.Cells.{in_within, not_within, same-within}
-use Rattle.terms.specs.Places.{same_row, same-column}
+use Rattle.terms.proofs.Cells.{in_within, not_within, same-within}
+use Rattle.terms.proofs.Places.{same_row, same-column}
 use Rattle.bundle_rows.specs.Steps.{Put}
 
 -- ---- a run of rows or columns: none, one, and two runs one after the other

@@ -8,8 +8,8 @@ use Rattle.std.proofs.Math.Logic.{inl, inr}
 use Rattle.std.proofs.Math.Dec.{eqb}
 use Rattle.std.specs.Float.{nan}
 use Rattle.terms.specs.Terms.{Term, add_all, add_if, at_cell}
-use Rattle.terms.specs.Laws.{length-add_all}
-use Rattle.terms.specs.Cells.{get_or-add_all}
+use Rattle.terms.proofs.Laws.{length-add_all}
+use Rattle.terms.proofs.Cells.{get_or-add_all}
 use Rattle.call_lists.specs.Lists.{In, Every, Pairs}
 use Rattle.call_lists.specs.ListLaws.{every_in, every_imp, every_perm, pairs_perm}
 

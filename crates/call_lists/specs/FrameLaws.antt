@@ -4,12 +4,12 @@ use Rattle.std.specs.Prelude.{◌≡◌, false, List, Float}
 use Rattle.std.proofs.Math.Path.{refl, ap}
 use Rattle.std.proofs.Common.{◌∙◌, inl, arith}
 use Rattle.terms.specs.Terms.{Term, cell_of, add_all, upto, cell_at, segment, column_at, block, at_cell}
-use Rattle.terms.specs.Laws.{upto_more}
-use Rattle.terms.specs.Cells.{at_cell-append, segment-cell, block-cell}
+use Rattle.terms.proofs.Laws.{upto_more}
+use Rattle.terms.proofs.Cells.{at_cell-append, segment-cell, block-cell}
 use Rattle.normal_blocks.specs.declared.Place.{Place}
 use Rattle.normal_blocks.specs.declared.Place.TheVariants.{At, Unmapped}
 use Rattle.normal_blocks.specs.Map.{exceeds, some_exceeds}
-use Rattle.normal_blocks.specs.Laws.{fits, fits_at}
+use Rattle.normal_blocks.proofs.Laws.{fits, fits_at}
 use Rattle.normal_blocks.specs.Target.{hessian_at, gradient_at}
 use Rattle.normal_blocks.specs.TargetLaws.{hessian_same, gradient_same}
 use Rattle.call_lists.specs.Lists.{Every}

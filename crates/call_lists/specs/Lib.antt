@@ -1,11 +1,9 @@
 pub mod Lists
 pub mod ListLaws
 pub mod Segments
-pub mod SegmentLaws
 pub mod Calls
 pub mod Frames
 pub mod FrameLaws
 pub mod Accumulated
 pub mod Outcomes
 pub mod Fold
-pub mod Chain

@@ -2,7 +2,7 @@
 use Rattle.std.specs.Prelude.{ℕ, zero, suc, ◌≡◌, refl, List, Float}
 use Rattle.std.proofs.Common.{ap}
 use Rattle.terms.specs.Terms.{add_all, upto}
-use Rattle.terms.specs.Laws.{add_all-none}
+use Rattle.terms.proofs.Laws.{add_all-none}
 use Rattle.call_lists.specs.Calls.{cost, Call, judged}
 use Rattle.call_lists.specs.Frames.{Frames, frame_hessian, frame_gradient, framed, idle}
 use Rattle.call_lists.specs.Accumulated.{Accumulated}

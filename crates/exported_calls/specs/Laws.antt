@@ -8,7 +8,7 @@ use Rattle.strict_build.proofs.StrictAgrees.{strict_agrees}
 use Rattle.call_lists.specs.Calls.{Made}
 use Rattle.normal_list.specs.Work.{Work, Got}
 use Rattle.normal_list.specs.Demand.{Calls}
-use Rattle.normal_list.specs.Theorem.{demand_3}
+use Rattle.normal_list.proofs.Theorem.{demand_3}
 use Rattle.exported_calls.specs.Row.{CostsKept, InARow}
 use Rattle.exported_calls.specs.Builds.{Agree}
 

@@ -12,10 +12,10 @@ use Rattle.sums.specs.Sum.{◌⊕◌, zero_f, sum_from, sum_from_zero, tab}
 use Rattle.sums.specs.Laws.{get_or-tab, sum_from-same, sum_from_parts}
 use Rattle.lists.specs.Part.{◌!◌}
 use Rattle.terms.specs.Terms.{add_all, upto}
-use Rattle.terms.specs.Laws.{upto-none, upto-joined}
+use Rattle.terms.proofs.Laws.{upto-none, upto-joined}
 use Rattle.normal_blocks.specs.declared.Place.{Place}
 use Rattle.normal_blocks.specs.Map.{lookup, exceeds, some_exceeds}
-use Rattle.normal_blocks.specs.Laws.{lookup-past, fits}
+use Rattle.normal_blocks.proofs.Laws.{lookup-past, fits}
 use Rattle.normal_blocks.specs.TargetLaws.{hessian_mapped, gradient_mapped, hessian_unmapped, gradient_unmapped, hessian_same, gradient_same}
 use Rattle.normal_blocks.specs.declared.Place.TheVariants.{At, Unmapped}
 use Rattle.normal_blocks.specs.Target.{hessian_at, gradient_at}

@@ -10,7 +10,7 @@ use Rattle.sums.specs.Fill.{padded}
 use Rattle.lists.specs.Part.{◌!◌}
 use Rattle.batches.specs.Beside.{place, beside_of, place_is}
 use Rattle.terms.specs.Terms.{add_all, segment}
-use Rattle.terms.specs.Laws.{upto-none, segment-same, block_more, block_all, column-before}
+use Rattle.terms.proofs.Laws.{upto-none, segment-same, block_more, block_all, column-before}
 use Rattle.derivative.specs.Action.{origin_place}
 use Rattle.derivative.specs.Derivative.{normal_row, combined, shifted, d_an, rows}
 use Rattle.point_moments.specs.declared.scatter.Centred.{Centred}

@@ -4,7 +4,7 @@ use Rattle.std.proofs.Common.{add-zero, add-suc, zero-add, ◌∙◌}
 use Rattle.std.proofs.Math.Path.{sym, ap}
 use mathlib.Core.List.{List, [], ◌∷◌, ◌++◌, append_assoc, append-nil}
 use Rattle.terms.specs.Terms.{Term, add_all, upto, segment, column_at, cell_of, block}
-use Rattle.terms.specs.Laws.{add_all-append, upto-none, upto_more, upto-same}
+use Rattle.terms.proofs.Laws.{add_all-append, upto-none, upto_more, upto-same}
 
 -- so many columns of a block, from column `first` on
 unfoldable pub columns : ℕ → ℕ → ℕ → (ℕ → ℕ → Float) → ℕ → ℕ → List Term

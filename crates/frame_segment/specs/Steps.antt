@@ -7,7 +7,7 @@ use Rattle.sums.specs.Fill.{padded, first_of}
 use Rattle.derivative.specs.Action.{action_size, origin_place}
 use Rattle.derivative.specs.Derivative.{normal_row, combined, shifted, d_an, d_along, d_scatter, rows, scatter-row, along-row}
 use Rattle.terms.specs.Terms.{add_all, segment, block}
-use Rattle.terms.specs.Laws.{segment-same, block_same}
+use Rattle.terms.proofs.Laws.{segment-same, block_same}
 use Rattle.point_moments.specs.declared.scatter.Centred.{Centred}
 use Rattle.point_moments.specs.Scatter.{CENTRED, centred_of}
 use Rattle.plane_fit.specs.Records.{record_of, record_length}

@@ -6,7 +6,7 @@ use Rattle.sums.specs.Sum.{grid}
 use Rattle.sums.specs.Laws.{up_to}
 use Rattle.lists.specs.Part.{◌!◌}
 use Rattle.terms.specs.Terms.{cell_of}
-use Rattle.terms.specs.Places.{same_row, same-column, grid_of_cells}
+use Rattle.terms.proofs.Places.{same_row, same-column, grid_of_cells}
 
 -- a matrix of n rows whose first c columns are f's
 pub record Done (n c : ℕ) (f : ℕ → ℕ → Float) (j : List Float) : Type 0 where

@@ -5,7 +5,7 @@ use Rattle.std.specs.Float.{nan}
 use Rattle.sums.specs.Sum.{◌⊕◌, ◌⊗◌, zero_f, sum_from}
 use Rattle.sums.specs.Laws.{sum_from_more, sum_from-same, sum_from_parts, up_to}
 use Rattle.lists.specs.Part.{◌!◌}
-use Rattle.match_sums.specs.Groups.{GROUP, groups, group_size, group_sum, by_groups}
+use Rattle.match_sums.specs.Groups.{GROUP, groups, group_size, group_sum}
 use Rattle.match_sums.specs.Cells.{Raised, Upper, Added, Summed, cell, squares, slants}
 
 -- ---- raised: before the first turn, and after one more
@@ -125,8 +125,3 @@ group_added width n q size f e h g h' g' z y z' y' w t lz ly zs ys s rh rg =
       size = rh.size;
       long = rg.size;
     }
-
-pub by_groups-same : (n : ℕ) (f g : ℕ → Float) → ((k : ℕ) → f k ≡ g k) → by_groups n f ≡ by_groups n g
-unfolding by_groups group_sum
-by_groups-same n f g h =
-    sum_from-same zero_f (groups n) (group_sum n f) (group_sum n g) (λ q l. sum_from-same zero_f (group_size n q) (λ k. f (q * GROUP + k)) (λ k. g (q * GROUP + k)) (λ k m. h (q * GROUP + k)))

@@ -3,4 +3,3 @@ pub mod Cells
 pub mod Sums
 pub mod Laws
 pub mod Batch
-pub mod Whole

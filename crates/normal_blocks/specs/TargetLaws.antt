@@ -1,7 +1,7 @@
 -- Laws of the target: a frame added at its offset, an unmapped frame, and equal entries. Assumes nothing.
 use Rattle.std.specs.Prelude.{ℕ, ◌<◌, ◌≡◌, refl, List, Float}
 use Rattle.terms.specs.Terms.{add_all, segment, block}
-use Rattle.terms.specs.Laws.{add_all-none, segment-same, block_same}
+use Rattle.terms.proofs.Laws.{add_all-none, segment-same, block_same}
 use Rattle.normal_blocks.specs.Target.{hessian_at, gradient_at}
 use Rattle.normal_blocks.specs.declared.Place.{Place}
 use Rattle.normal_blocks.specs.declared.Place.TheVariants.{At, Unmapped}

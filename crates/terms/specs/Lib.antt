@@ -1,4 +1,1 @@
 pub mod Terms
-pub mod Laws
-pub mod Cells
-pub mod Places

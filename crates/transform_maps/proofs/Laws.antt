@@ -18,7 +18,7 @@ use Rattle.sums.specs.Fill.{written, written_same, padded, column_ends}
 use Rattle.lists.specs.Part.{◌!◌, part}
 use Rattle.refusals.specs.Refusal.{none, either_none}
 use Rattle.terms.specs.Terms.{cell_of}
-use Rattle.terms.specs.Places.{grid_of_cells}
+use Rattle.terms.proofs.Places.{grid_of_cells}
 use Rattle.normal_blocks.specs.Somewhere.{nowhere-at}
 use Rattle.normal_blocks.specs.Map.{bad_words}
 use Rattle.normal_blocks.specs.Calls.{MOST_WORDS}

@@ -13,7 +13,7 @@ use Rattle.sums.specs.Laws.{length-tab, sum_to_more, sum_to-same, up_to}
 use Rattle.sums.specs.Fill.{padded, first_of, written, length-written, written-before, written_inside, written_same, written_more, column_ends}
 use Rattle.lists.specs.Part.{◌!◌}
 use Rattle.terms.specs.Terms.{add_all, segment, block}
-use Rattle.terms.specs.Laws.{segment-same, block_same}
+use Rattle.terms.proofs.Laws.{segment-same, block_same}
 use Rattle.normal_blocks.specs.Target.{number_from}
 use Rattle.block_transforms.proofs.Laws.{room}
 use Rattle.block_transforms.specs.Transform.{ROOM, entry_from, left_product, transformed_block, transformed_vector, block_under, vector_under, width_under}

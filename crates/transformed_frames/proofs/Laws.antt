@@ -10,11 +10,11 @@ use lib.ListN.{length}
 use lib.Ieee.{Float}
 use Rattle.sums.specs.Sum.{◌⊕◌, zero_f, sum_from_zero}
 use Rattle.terms.specs.Terms.{add_all}
-use Rattle.terms.specs.Laws.{block_same, segment-same}
+use Rattle.terms.proofs.Laws.{block_same, segment-same}
 use Rattle.normal_blocks.specs.declared.Place.{Place}
 use Rattle.normal_blocks.specs.declared.Place.TheVariants.{At, Unmapped}
 use Rattle.normal_blocks.specs.Map.{lookup, exceeds}
-use Rattle.normal_blocks.specs.Laws.{lookup-past, fits}
+use Rattle.normal_blocks.proofs.Laws.{lookup-past, fits}
 use Rattle.normal_blocks.specs.TargetLaws.{hessian_mapped, gradient_mapped, hessian_unmapped, gradient_unmapped}
 use Rattle.call_lists.specs.Accumulated.{Accumulated}
 use Rattle.block_transforms.specs.Transform.{Beside, ROOM, shape_at, entry_from, block_under, vector_under, width_under, width_at}

@@ -12,7 +12,7 @@ use lib.Ieee.{Float}
 use borrow.Author.Tests.{ltb-true, ltb-false}
 use Rattle.sums.specs.Sum.{zero_f}
 use Rattle.normal_blocks.specs.Map.{lookup, exceeds}
-use Rattle.normal_blocks.specs.Laws.{fits}
+use Rattle.normal_blocks.proofs.Laws.{fits}
 use Rattle.call_lists.specs.Frames.{Frames, frame_hessian, frame_gradient}
 use Rattle.block_transforms.specs.Transform.{ROOM, shape_at, width_under, width_at}
 use Rattle.block_transforms.specs.declared.Shape.{Shape}

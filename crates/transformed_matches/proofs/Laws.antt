@@ -9,9 +9,9 @@ use lib.Ieee.{Float}
 use borrow.Author.Tests.{lt-ltb, le-ltb}
 use Rattle.lists.specs.Part.{◌!◌}
 use Rattle.terms.specs.Terms.{add_all, segment, block}
-use Rattle.terms.specs.Laws.{block_same, segment-same}
+use Rattle.terms.proofs.Laws.{block_same, segment-same}
 use Rattle.normal_blocks.specs.Map.{lookup}
-use Rattle.normal_blocks.specs.Laws.{fits}
+use Rattle.normal_blocks.proofs.Laws.{fits}
 use Rattle.normal_blocks.specs.Target.{entry_of, number_from}
 use Rattle.normal_blocks.specs.TargetLaws.{hessian_mapped, gradient_mapped, hessian_unmapped, gradient_unmapped, hessian_same, gradient_same}
 use Rattle.normal_blocks.specs.declared.Place.{Place}

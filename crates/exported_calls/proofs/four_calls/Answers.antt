@@ -5,17 +5,17 @@ use Rattle.exported_calls.proofs.four_calls.Goals as goal
 
 pub shape_of-hessian : goal.shape_of-hessian
 shape_of-hessian c =
-    c.maghnelt_matches_accumulate-four.auto.1.1.1.1.0
-    ∙ c.maghnelt_frames_accumulate_transformed-three.auto.1.1.1.1.1.1.1.1.1.0
-    ∙ c.maghnelt_matches_accumulate_transformed-two.auto.1.1.1.1.1.1.0
-    ∙ c.maghnelt_frames_accumulate-one.auto.1.1.1.1.1.1.1.0
+    c.maghnelt_matches_accumulate-four.auto.hessian
+    ∙ c.maghnelt_frames_accumulate_transformed-three.auto.hessian
+    ∙ c.maghnelt_matches_accumulate_transformed-two.auto.hessian
+    ∙ c.maghnelt_frames_accumulate-one.auto.hessian
 
 pub shape_of-gradient : goal.shape_of-gradient
 shape_of-gradient c =
-    c.maghnelt_matches_accumulate-four.auto.1.1.1.1.1.0
-    ∙ c.maghnelt_frames_accumulate_transformed-three.auto.1.1.1.1.1.1.1.1.1.1.0
-    ∙ c.maghnelt_matches_accumulate_transformed-two.auto.1.1.1.1.1.1.1.0
-    ∙ c.maghnelt_frames_accumulate-one.auto.1.1.1.1.1.1.1.1.0
+    c.maghnelt_matches_accumulate-four.auto.gradient
+    ∙ c.maghnelt_frames_accumulate_transformed-three.auto.gradient
+    ∙ c.maghnelt_matches_accumulate_transformed-two.auto.gradient
+    ∙ c.maghnelt_frames_accumulate-one.auto.gradient
 
 pub returns : goal.returns
 returns c =

@@ -1,6 +1,6 @@
 -- `frame_blocks::add_frame` meets its contract: block and vector at the frame's offset, nothing where it has none. Assumes nothing.
 use mathlib.Core.Path.{refl}
-use Rattle.normal_blocks.specs.Laws.{fits_at}
+use Rattle.normal_blocks.proofs.Laws.{fits_at}
 use Rattle.frame_blocks.specs.Frames.{frame_mapped, frame_unmapped}
 use Rattle.frame_blocks.proofs.add_frame.Goals as goal
 

@@ -5,8 +5,8 @@ use mathlib.Core.Logic.{⊎_elim}
 use native.Mathlib.Omega.{arith}
 use borrow.Author.Rules.{rules}
 use lib.ListN.{length}
-use Rattle.terms.specs.Laws.{length-add_all}
-use Rattle.normal_blocks.specs.Laws.{fits_at}
+use Rattle.terms.proofs.Laws.{length-add_all}
+use Rattle.normal_blocks.proofs.Laws.{fits_at}
 use Rattle.frame_blocks.specs.Frames.{PartAdded, part_mapped, part_unmapped, first-none, parts_more}
 use Rattle.frame_blocks.proofs.add_parts.Goals as goal
 use Rattle.frame_blocks.proofs.add_parts.Goals.{Joined-lookup, in-At, in-Unmapped}

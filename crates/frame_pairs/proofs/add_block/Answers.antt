@@ -3,7 +3,7 @@ use Prim.Native.Nat.{◌+◌, ◌*◌, ◌-◌, ◌≤◌}
 use mathlib.Core.Path.{refl, ◌∙◌}
 use native.Mathlib.Omega.{arith}
 use borrow.Author.Rules.{rules}
-use Rattle.terms.specs.Laws.{upto-none, block_more, block_all, column-before}
+use Rattle.terms.proofs.Laws.{upto-none, block_more, block_all, column-before}
 use Rattle.frame_pairs.specs.Pairs.{block_in}
 use Rattle.frame_pairs.proofs.Adding.{column_inside}
 use Rattle.frame_pairs.proofs.add_block.Goals as goal

@@ -4,7 +4,7 @@ use mathlib.Core.Path.{refl}
 use native.Mathlib.Omega.{arith}
 use borrow.Author.Rules.{rules}
 use lib.ListN.{length-set}
-use Rattle.terms.specs.Laws.{upto-none, segment_more, segment_all}
+use Rattle.terms.proofs.Laws.{upto-none, segment_more, segment_all}
 use Rattle.frame_pairs.specs.Pairs.{lane}
 use Rattle.frame_pairs.proofs.add_numbers.Goals as goal
 

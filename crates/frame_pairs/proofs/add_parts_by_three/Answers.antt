@@ -5,8 +5,8 @@ use mathlib.Core.Logic.{⊎_elim}
 use native.Mathlib.Omega.{arith}
 use borrow.Author.Rules.{rules}
 use lib.ListN.{length}
-use Rattle.terms.specs.Laws.{length-add_all}
-use Rattle.normal_blocks.specs.Laws.{fits_at}
+use Rattle.terms.proofs.Laws.{length-add_all}
+use Rattle.normal_blocks.proofs.Laws.{fits_at}
 use Rattle.frame_blocks.specs.Frames.{first-none}
 use Rattle.frame_pairs.proofs.Adding.{PartAdded, part_mapped, part_unmapped, parts_more}
 use Rattle.frame_pairs.proofs.add_parts_by_three.Goals as goal

@@ -1,5 +1,5 @@
 -- `frame_rows::write_all` meets its contract: the frames, then the fixed set. Assumes nothing.
-use Rattle.frame_rows.specs.Loop.{rows_all}
+use Rattle.frame_rows.proofs.Loop.{rows_all}
 use Rattle.frame_rows.proofs.write_all.Goals as goal
 
 pub returns : goal.returns

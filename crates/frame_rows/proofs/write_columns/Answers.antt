@@ -10,7 +10,7 @@ use Rattle.frame_rows.specs.Steps.{put_blocks}
 use Rattle.frame_roots.specs.Batch.{root_in}
 use Rattle.frame_rows.specs.Batch.{column_rows}
 use Rattle.frame_rows.specs.Laws.{put_same, length-put, blocks_none, blocks_more}
-use Rattle.frame_rows.specs.Frames.{column_fits, batch_starts, batch_narrow, batch_step}
+use Rattle.frame_rows.proofs.Frames.{column_fits, batch_starts, batch_narrow, batch_step}
 use Rattle.frame_rows.proofs.write_columns.Goals as goal
 use Rattle.frame_rows.proofs.write_columns.Goals.{In-loop-c, Start}
 

@@ -6,7 +6,7 @@ use native.Mathlib.Omega.{arith}
 use lib.ListN.{length}
 use Rattle.decomposition.specs.Axes.{DECOMPOSITION}
 use Rattle.frame_roots.specs.Roots.{decomposition_whole}
-use Rattle.frame_rows.specs.Frames.{fixed_none, fixed_some}
+use Rattle.frame_rows.proofs.Frames.{fixed_none, fixed_some}
 use Rattle.frame_rows.proofs.write_fixed.Goals as goal
 use Rattle.frame_rows.proofs.write_fixed.Goals.{Else-fixed-eq0}
 

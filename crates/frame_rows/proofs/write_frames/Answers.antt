@@ -7,8 +7,8 @@ use Rattle.lists.specs.Batch.{batch_fits}
 use Rattle.plane_fit.specs.Fit.{frame_count}
 use Rattle.frame_roots.specs.Batch.{BATCH}
 use Rattle.frame_rows.specs.Batch.{BatchRoom}
-use Rattle.frame_rows.specs.Frames.{batch_ends, first-narrow, size-narrow}
-use Rattle.frame_rows.specs.Loop.{lined_none, lined_more, lined_all}
+use Rattle.frame_rows.proofs.Frames.{batch_ends, first-narrow, size-narrow}
+use Rattle.frame_rows.proofs.Loop.{lined_none, lined_more, lined_all}
 use Rattle.frame_rows.proofs.write_frames.Goals as goal
 use Rattle.frame_rows.proofs.write_frames.Goals.{After-batch_size-size, After-clear_part-arg-1}
 

@@ -3,7 +3,7 @@ use mathlib.Core.Path.{◌≡◌}
 use lib.ListN.{length}
 use Rattle.plane_fit.specs.Fit.{frame_count}
 use Rattle.frame_roots.specs.Batch.{ROOTS, FOURS}
-use Rattle.frame_rows.specs.Loop.{Lined}
+use Rattle.frame_rows.proofs.Loop.{Lined}
 use Rattle.frame_rows.proofs.write_frames.Given as goal
 
 abbrev pub invariant-loop-from : goal.invariant-loop-from

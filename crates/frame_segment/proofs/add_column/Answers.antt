@@ -4,7 +4,7 @@ use mathlib.Core.Path.{refl}
 use native.Mathlib.Omega.{arith}
 use borrow.Author.Rules.{rules}
 use lib.ListN.{length-set}
-use Rattle.terms.specs.Laws.{upto-none, segment_more, segment_all}
+use Rattle.terms.proofs.Laws.{upto-none, segment_more, segment_all}
 use Rattle.derivative.specs.Derivative.{combined}
 use Rattle.frame_segment.specs.Steps.{column_entry}
 use Rattle.frame_segment.proofs.add_column.Goals as goal

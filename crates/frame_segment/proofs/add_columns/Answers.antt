@@ -3,7 +3,7 @@ use Prim.Native.Nat.{◌+◌, ◌-◌, ◌*◌, ◌≤◌}
 use mathlib.Core.Path.{◌≡◌, refl, ◌∙◌}
 use native.Mathlib.Omega.{arith}
 use borrow.Author.Rules.{rules}
-use Rattle.terms.specs.Laws.{column-before}
+use Rattle.terms.proofs.Laws.{column-before}
 use Rattle.frame_segment.specs.Columns.{columns-none, columns_more}
 use Rattle.frame_segment.specs.Steps.{rows_entry}
 use Rattle.frame_segment.proofs.add_columns.Goals as goal

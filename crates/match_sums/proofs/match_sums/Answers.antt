@@ -3,7 +3,7 @@ use lib.ListN.{get_or-replicate, length-replicate}
 use lib.Ieee.{nan}
 use mathlib.Core.Path.{◌∙◌}
 use Rattle.sums.specs.Sum.{zero_f}
-use Rattle.match_sums.specs.Whole.{whole_cell, whole_number}
+use Rattle.match_sums.proofs.Whole.{whole_cell, whole_number}
 use borrow.Author.Rules.{rules}
 use Rattle.match_sums.proofs.match_sums.Goals as goal
 

@@ -1,6 +1,6 @@
 -- `normal_blocks::exceeds` meets its contract: the offset is compared with the room that the width leaves. Assumes nothing.
 use Rattle.normal_blocks.specs.Map.{exceeds}
-use Rattle.normal_blocks.specs.Laws.{exceeds-wide, exceeds_room}
+use Rattle.normal_blocks.proofs.Laws.{exceeds-wide, exceeds_room}
 use Rattle.normal_blocks.proofs.exceeds.Goals as goal
 
 pub returns-then-n-width : goal.returns-then-n-width

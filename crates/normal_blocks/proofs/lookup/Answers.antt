@@ -1,6 +1,6 @@
 -- `normal_blocks::lookup` meets its contract: the place of the word inside the map, none past its end. Assumes nothing.
 use mathlib.Core.Path.{◌∙◌}
-use Rattle.normal_blocks.specs.Laws.{lookup_inside, lookup-past}
+use Rattle.normal_blocks.proofs.Laws.{lookup_inside, lookup-past}
 use Rattle.normal_blocks.proofs.lookup.Goals as goal
 
 pub returns-then-k-map : goal.returns-then-k-map

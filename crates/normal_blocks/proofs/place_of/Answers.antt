@@ -1,5 +1,5 @@
 -- `normal_blocks::place_of` meets its contract: a word below the unmapped one is a place. Assumes nothing.
-use Rattle.normal_blocks.specs.Laws.{place_at, place_unmapped}
+use Rattle.normal_blocks.proofs.Laws.{place_at, place_unmapped}
 use mathlib.Core.Path.{sym}
 use Rattle.normal_blocks.proofs.place_of.Goals as goal
 

@@ -1,6 +1,6 @@
 -- `normal_blocks::word_at` meets its contract: the word at the place that the word names, and unmapped past the end and for a word without a place. Assumes nothing.
 use Rattle.normal_blocks.specs.Map.{word_at}
-use Rattle.normal_blocks.specs.Laws.{word_inside, word_past}
+use Rattle.normal_blocks.proofs.Laws.{word_inside, word_past}
 use Rattle.normal_blocks.proofs.word_at.Goals as goal
 
 pub returns-then-k-map : goal.returns-then-k-map

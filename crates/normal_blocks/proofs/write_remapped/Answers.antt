@@ -3,7 +3,7 @@ use borrow.Author.Rules.{rules}
 use native.Mathlib.Omega.{arith}
 use mathlib.Core.Path.{◌≡◌}
 use lib.ListN.{length, length-set}
-use Rattle.normal_blocks.specs.Laws.{remapped_more, remapped_all}
+use Rattle.normal_blocks.proofs.Laws.{remapped_more, remapped_all}
 use Rattle.normal_blocks.proofs.write_remapped.Goals as goal
 
 pub loop-k-preserved : goal.loop-k-preserved

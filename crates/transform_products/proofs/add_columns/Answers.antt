@@ -4,7 +4,7 @@ use mathlib.Core.Path.{refl, ◌∙◌}
 use native.Mathlib.Omega.{arith}
 use borrow.Author.Rules.{rules}
 use Rattle.sums.specs.Fill.{column_ends}
-use Rattle.terms.specs.Laws.{upto-none, block_more, block_all, column-before}
+use Rattle.terms.proofs.Laws.{upto-none, block_more, block_all, column-before}
 use Rattle.transform_products.proofs.Laws.{column_added, right_size}
 use Rattle.transform_products.proofs.add_columns.Goals as goal
 use Rattle.transform_products.proofs.add_columns.Goals.{In-loop-j}

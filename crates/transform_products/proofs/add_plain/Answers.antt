@@ -3,7 +3,7 @@ use Prim.Native.Nat.{◌+◌, ◌*◌, ◌-◌, ◌≤◌}
 use mathlib.Core.Path.{refl, ◌∙◌}
 use native.Mathlib.Omega.{arith}
 use borrow.Author.Rules.{rules}
-use Rattle.terms.specs.Laws.{upto-none, block_more, block_all, column-before}
+use Rattle.terms.proofs.Laws.{upto-none, block_more, block_all, column-before}
 use Rattle.transform_products.specs.Rows.{spaced}
 use Rattle.transform_products.proofs.add_plain.Goals as goal
 use Rattle.transform_products.proofs.add_plain.Goals.{In-loop-j}

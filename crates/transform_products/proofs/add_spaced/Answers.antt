@@ -4,7 +4,7 @@ use mathlib.Core.Path.{refl}
 use native.Mathlib.Omega.{arith}
 use borrow.Author.Rules.{rules}
 use lib.ListN.{length-set}
-use Rattle.terms.specs.Laws.{upto-none, segment_more, segment_all}
+use Rattle.terms.proofs.Laws.{upto-none, segment_more, segment_all}
 use Rattle.transform_products.specs.Rows.{rows_of, spaced}
 use Rattle.transform_products.proofs.Laws.{row_fits}
 use Rattle.transform_products.proofs.add_spaced.Goals as goal

@@ -1,6 +1,6 @@
 -- `transformed_matches::add_list` meets its contract: block and vector at the place of word 0, or the cost alone. Assumes nothing.
 use mathlib.Core.Path.{refl, sym, ◌∙◌}
-use Rattle.normal_blocks.specs.Laws.{fits_at}
+use Rattle.normal_blocks.proofs.Laws.{fits_at}
 use Rattle.transformed_matches.proofs.Laws.{list_mapped, list_unmapped}
 use Rattle.transformed_matches.proofs.add_list.Goals as goal
 

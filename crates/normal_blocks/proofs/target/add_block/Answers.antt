@@ -3,7 +3,7 @@ use Prim.Native.Nat.{◌+◌, ◌*◌, ◌≤◌}
 use mathlib.Core.Path.{refl, ◌∙◌}
 use native.Mathlib.Omega.{arith}
 use borrow.Author.Rules.{rules}
-use Rattle.terms.specs.Laws.{upto-none, block_more, block_all, column-before}
+use Rattle.terms.proofs.Laws.{upto-none, block_more, block_all, column-before}
 use Rattle.normal_blocks.specs.Target.{entry_of}
 use Rattle.normal_blocks.proofs.target.add_block.Goals as goal
 use Rattle.normal_blocks.proofs.target.add_block.Goals.{In-loop-c}

@@ -3,7 +3,7 @@ use mathlib.Core.Path.{refl}
 use native.Mathlib.Omega.{arith}
 use borrow.Author.Rules.{rules}
 use lib.ListN.{length-set}
-use Rattle.terms.specs.Laws.{upto-none, segment_more, segment_all}
+use Rattle.terms.proofs.Laws.{upto-none, segment_more, segment_all}
 use Rattle.normal_blocks.specs.Target.{number_from}
 use Rattle.normal_blocks.proofs.target.add_run.Goals as goal
 

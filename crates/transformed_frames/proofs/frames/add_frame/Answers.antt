@@ -1,6 +1,6 @@
 -- `transformed_frames::frames::add_frame` meets its contract: stored and added at the frame's offset; nothing where it has none. Assumes nothing.
 use mathlib.Core.Path.{refl}
-use Rattle.normal_blocks.specs.Laws.{fits_at}
+use Rattle.normal_blocks.proofs.Laws.{fits_at}
 use Rattle.transformed_frames.proofs.Laws.{frame_added, frame_mapped, frame_unmapped}
 use Rattle.transformed_frames.proofs.frames.add_frame.Goals as goal
 

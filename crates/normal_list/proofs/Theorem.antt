@@ -9,7 +9,7 @@ use Rattle.refusals.specs.Refusal.{Reason, ◌when◌, first_of}
 use Rattle.validate.specs.Finite.{finite_positive}
 use Rattle.sums.specs.Sum.{zero_f}
 use Rattle.terms.specs.Terms.{cell_of, at_cell}
-use Rattle.terms.specs.Places.{same_row, same-column, cell_fits}
+use Rattle.terms.proofs.Places.{same_row, same-column, cell_fits}
 use Rattle.normal_blocks.specs.Map.{some_exceeds}
 use Rattle.normal_blocks.specs.Calls.{bad_target}
 use Rattle.derivative.specs.Action.{action_size, most_dof}
@@ -22,7 +22,7 @@ use Rattle.call_lists.specs.Calls.{refusal, cost, Call, answer, judged, hessian_
 use Rattle.call_lists.specs.Frames.{Frames, framed}
 use Rattle.call_lists.specs.FrameLaws.{framed_tame, framed_hessian, framed_gradient}
 use Rattle.call_lists.specs.Fold.{cell_after, after_none}
-use Rattle.call_lists.specs.Chain.{HasChain, has_chain, whole, Folded, folded, hessian_unowned, gradient_unowned, settled, any_order}
+use Rattle.call_lists.proofs.Chain.{HasChain, has_chain, whole, Folded, folded, hessian_unowned, gradient_unowned, settled, any_order}
 use Rattle.plane_fit.specs.declared.axis.Fit.{Fit}
 use Rattle.plane_fit.specs.declared.axis.Fit.TheVariants.{Plane, NoPlane}
 use Rattle.block_transforms.specs.Transform.{Beside, shape_at}

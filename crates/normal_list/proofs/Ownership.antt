@@ -5,7 +5,7 @@ use Rattle.normal_blocks.specs.Map.{lookup}
 use Rattle.call_lists.specs.Lists.{Some, Pairs}
 use Rattle.call_lists.specs.ListLaws.{pairs_imp}
 use Rattle.call_lists.specs.Segments.{Segment, segments_of, Has, HasBoth, Disjoint}
-use Rattle.call_lists.specs.SegmentLaws.{frame_of, of_frame}
+use Rattle.call_lists.proofs.SegmentLaws.{frame_of, of_frame}
 use Rattle.plane_fit.specs.Fit.{frame_count}
 use Rattle.block_transforms.specs.Transform.{Beside, shape_at, width_at}
 use Rattle.plane_moments.specs.Accumulate.{FramesWork, transformed_frames_refusal}

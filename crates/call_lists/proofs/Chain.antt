@@ -7,8 +7,8 @@ use mathlib.Core.List.{List, [], ◌∷◌, ◌++◌, Permᴰ}
 use Rattle.std.proofs.Math.ListN.{length}
 use Rattle.std.specs.Float.{nan}
 use Rattle.terms.specs.Terms.{Term, add_all, at_cell}
-use Rattle.terms.specs.Laws.{length-add_all}
-use Rattle.terms.specs.Places.{same_row}
+use Rattle.terms.proofs.Laws.{length-add_all}
+use Rattle.terms.proofs.Places.{same_row}
 use Rattle.call_lists.specs.Lists.{In, Every, Pairs}
 use Rattle.call_lists.specs.ListLaws.{every_in, in_every, every_imp, some_imp, pairs_imp}
 use Rattle.call_lists.specs.Segments.{Segment, Has, HasBoth, HasRow, HasCell, Disjoint}

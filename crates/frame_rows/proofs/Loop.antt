@@ -12,8 +12,8 @@ use Rattle.frame_rows.specs.Steps.{put_columns, put_blocks, cleared, Room, Frame
 use Rattle.frame_roots.specs.Batch.{BATCH, root_in, Rooted, rooted_is}
 use Rattle.frame_rows.specs.Batch.{residual_rows, column_rows}
 use Rattle.frame_rows.specs.Laws.{put_same, blocks_same}
-use Rattle.frame_rows.specs.Cells.{Partly, partly_none, partly_batch, partly_all}
-use Rattle.frame_rows.specs.Frames.{frame_four, block-four}
+use Rattle.frame_rows.proofs.Cells.{Partly, partly_none, partly_batch, partly_all}
+use Rattle.frame_rows.proofs.Frames.{frame_four, block-four}
 use Rattle.frame_rows.specs.declared.Fitted.{Fitted}
 
 -- so many columns more

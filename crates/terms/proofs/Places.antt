@@ -6,7 +6,7 @@ use Rattle.std.specs.Float.{nan}
 use Rattle.sums.specs.Sum.{grid}
 use Rattle.sums.specs.Laws.{length-grid, at-grid, off-add}
 use Rattle.terms.specs.Terms.{cell_of}
-use Rattle.terms.specs.Laws.{column-before}
+use Rattle.terms.proofs.Laws.{column-before}
 
 pub row_is : (n i j : ℕ) → i < n → cell_of n i j % n ≡ i
 row_is n i j l = mul-add-mod_self_right j n i ∙ mod-eq_of_lt l

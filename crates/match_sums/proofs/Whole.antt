@@ -6,12 +6,16 @@ use Rattle.std.proofs.Math.Bool.{true, false, cond}
 use Rattle.std.proofs.Math.Dec.{leb}
 use borrow.Author.Tests.{leb-true, leb-false}
 use Rattle.sums.specs.Sum.{zero_f, sum_from, grid}
-use Rattle.sums.specs.Laws.{⊗_comm, at-grid, off-add}
+use Rattle.sums.specs.Laws.{⊗_comm, at-grid, off-add, sum_from-same}
 use Rattle.lists.specs.Part.{◌!◌}
 use Rattle.match_rows.specs.Row.{row_at}
-use Rattle.match_sums.specs.Groups.{groups, group_sum, by_groups, block_term, vector_term, match_count, list_block, list_vector}
+use Rattle.match_sums.specs.Groups.{GROUP, groups, group_size, group_sum, by_groups, block_term, vector_term, match_count, list_block, list_vector}
 use Rattle.match_sums.specs.Cells.{upper_place, cell, Summed}
-use Rattle.match_sums.specs.Laws.{by_groups-same}
+
+pub by_groups-same : (n : ℕ) (f g : ℕ → Float) → ((k : ℕ) → f k ≡ g k) → by_groups n f ≡ by_groups n g
+unfolding by_groups group_sum
+by_groups-same n f g h =
+    sum_from-same zero_f (groups n) (group_sum n f) (group_sum n g) (λ q l. sum_from-same zero_f (group_size n q) (λ k. f (q * GROUP + k)) (λ k. g (q * GROUP + k)) (λ k m. h (q * GROUP + k)))
 
 block_flipped : (x ms : List Float) (i j : ℕ) → list_block x ms i j ≡ list_block x ms j i
 unfolding list_block block_term

@@ -17,7 +17,7 @@ use Rattle.frame_normal.specs.Normal.{normal_in, along_of}
 use Rattle.frame_rows.specs.Rows.{set_row, frame_row, fixed_row, block_cell}
 use Rattle.frame_rows.specs.Steps.{rows_of}
 use Rattle.frame_rows.specs.Batch.{residual_rows, column_rows, BatchRoom}
-use Rattle.frame_rows.specs.Cells.{block-place}
+use Rattle.frame_rows.proofs.Cells.{block-place}
 use Rattle.frame_roots.specs.Roots.{root_of, decomposition_at}
 use Rattle.frame_roots.specs.Batch.{root_at}
 use Rattle.frame_roots.specs.declared.Root.{Root}

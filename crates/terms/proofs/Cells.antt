@@ -11,7 +11,7 @@ use Rattle.std.specs.Float.{nan}
 use borrow.Author.Tests.{eqb-true, eqb-false, leb-true, ltb-true, ltb-false, le-leb, lt-ltb}
 use Rattle.sums.specs.Sum.{◌⊕◌}
 use Rattle.terms.specs.Terms.{Term, cell_of, add_at, add_all, upto, cell_at, segment, column_at, block, add_if, at_cell, within}
-use Rattle.terms.specs.Laws.{column-before}
+use Rattle.terms.proofs.Laws.{column-before}
 
 -- ---- the cells of a list to which terms are added
 pub get_or-add_at : (h : List Float) (k i : ℕ) (v : Float) → k < length h → get_or (add_at h i v) k nan ≡ add_if (eqb k i) (get_or h k nan) v

@@ -27,7 +27,7 @@ use Rattle.normal_blocks.specs.Calls.{bad_target}
 use Rattle.call_lists.specs.Lists.{In, Every}
 use Rattle.call_lists.specs.ListLaws.{every_in}
 use Rattle.call_lists.specs.Segments.{frame_segment}
-use Rattle.call_lists.specs.SegmentLaws.{all_apart_lem}
+use Rattle.call_lists.proofs.SegmentLaws.{all_apart_lem}
 use Rattle.call_lists.specs.Calls.{refusal, cost, Made}
 use Rattle.call_lists.specs.Frames.{hessian_cell, gradient_cell}
 use Rattle.total_order.specs.Three.{before, order_of}
@@ -53,7 +53,7 @@ use Rattle.map_planes.specs.Accumulate as map_planes
 use Rattle.normal_list.specs.Work.{Work, frames, matches, Got, answer_of}
 use Rattle.normal_list.specs.Book.{own_segments, OwnsCell, Apart, page_of}
 use Rattle.normal_list.specs.Demand.{Among, WordsApart, Calls, OwnersAlone}
-use Rattle.normal_list.specs.Theorem.{owners_alone}
+use Rattle.normal_list.proofs.Theorem.{owners_alone}
 
 -- whole numbers by their bit patterns
 abbrev one : ℕ
