@@ -1,4 +1,4 @@
-// The functions that hosts link: the C interface of include/maghnelt.h, each a call of the crate below it.
+// The interface of include/maghnelt.h: each function is a call of the crate below it. The crate maghnelt_c exports them to hosts.
 #![tactic(auto)]
 
 ghost use Rattle.std.specs.Prelude.{◌≡◌, length};
@@ -25,73 +25,56 @@ ghost use Rattle.map_planes.specs.Linearize.{Linearized};
 ghost use Rattle.map_plane.specs.Linearize.{Linearized as OneLinearized};
 
 // IEEE 754's squareRoot.
-#[unsafe(no_mangle)]
-pub extern "C" fn maghnelt_sqrt(x: f64) -> f64
+pub fn maghnelt_sqrt(x: f64) -> f64
     ensures { result ≡ square_root x }
 {
     square_root::sqrt(x)
 }
 
 // The key of a bit pattern: signed comparison of keys is IEEE 754's totalOrder.
-#[unsafe(no_mangle)]
-pub extern "C" fn maghnelt_total_order_key(bits: u64) -> i64
+pub fn maghnelt_total_order_key(bits: u64) -> i64
     ensures { result ≡ key_of bits }
 {
     total_order::key(bits)
 }
 
 // The moments of a list of points.
-#[unsafe(no_mangle)]
-pub extern "C" fn maghnelt_moments_from_points(points: &[f64], moments: &mut [f64]) -> u32
+pub fn maghnelt_moments_from_points(points: &[f64], moments: &mut [f64]) -> u32
     ensures { FromPoints points.now moments.old result moments.new }
 {
     moment_lists::from_points(points, moments)
 }
 
 // One point more.
-#[unsafe(no_mangle)]
-pub extern "C" fn maghnelt_moments_push(moments: &mut [f64], point: &[f64]) -> u32
+pub fn maghnelt_moments_push(moments: &mut [f64], point: &[f64]) -> u32
     ensures { Pushes moments.old point.now result moments.new }
 {
     moment_lists::push(moments, point)
 }
 
 // The points of another set too.
-#[unsafe(no_mangle)]
-pub extern "C" fn maghnelt_moments_merge(moments: &mut [f64], other: &[f64]) -> u32
+pub fn maghnelt_moments_merge(moments: &mut [f64], other: &[f64]) -> u32
     ensures { Merges moments.old other.now result moments.new }
 {
     moment_lists::merge(moments, other)
 }
 
 // The moments of the points carried by p -> A p + b.
-#[unsafe(no_mangle)]
-pub extern "C" fn maghnelt_moments_transformed(
-    moments: &[f64],
-    a: &[f64],
-    b: &[f64],
-    out: &mut [f64],
-) -> u32
+pub fn maghnelt_moments_transformed(moments: &[f64], a: &[f64], b: &[f64], out: &mut [f64]) -> u32
     ensures { Transforms moments.now a.now b.now out.old result out.new }
 {
     moment_lists::transformed(moments, a, b, out)
 }
 
 // The mean and the scatter, or none.
-#[unsafe(no_mangle)]
-pub extern "C" fn maghnelt_moments_mean_and_scatter(
-    moments: &[f64],
-    out: &mut [f64],
-    found: &mut u32,
-) -> u32
+pub fn maghnelt_moments_mean_and_scatter(moments: &[f64], out: &mut [f64], found: &mut u32) -> u32
     ensures { FindsMean moments.now out.old found.old result out.new found.new }
 {
     moment_lists::mean_and_scatter(moments, out, found)
 }
 
 // The plane of least scatter, or none.
-#[unsafe(no_mangle)]
-pub extern "C" fn maghnelt_moments_plane(
+pub fn maghnelt_moments_plane(
     moments: &[f64],
     decomposition: &[u64],
     out: &mut [f64],
@@ -103,32 +86,28 @@ pub extern "C" fn maghnelt_moments_plane(
 }
 
 // The card of a list of moments, in groups of eight records with their counts first; both as bit patterns.
-#[unsafe(no_mangle)]
-pub extern "C" fn maghnelt_card_write(moments: &[u64], card: &mut [u64]) -> u32
+pub fn maghnelt_card_write(moments: &[u64], card: &mut [u64]) -> u32
     ensures { Writes moments.now card.old result card.new }
 {
     cards::card_write(moments, card)
 }
 
 // The list of moments of a card.
-#[unsafe(no_mangle)]
-pub extern "C" fn maghnelt_card_read(card: &[u64], moments: &mut [u64]) -> u32
+pub fn maghnelt_card_read(card: &[u64], moments: &mut [u64]) -> u32
     ensures { Reads card.now moments.old result moments.new }
 {
     cards::card_read(card, moments)
 }
 
 // The plane of a normal of any length.
-#[unsafe(no_mangle)]
-pub extern "C" fn maghnelt_plane_new(normal: &[f64], offset: f64, plane: &mut [f64]) -> u32
+pub fn maghnelt_plane_new(normal: &[f64], offset: f64, plane: &mut [f64]) -> u32
     ensures { Answered (new_refusal normal.now plane.old) result plane.old plane.new (new_plane normal.now offset) }
 {
     plane_lists::plane_new(normal, offset, plane)
 }
 
 // The standard deviation of a point's distance from a plane.
-#[unsafe(no_mangle)]
-pub extern "C" fn maghnelt_point_to_plane_sigma(
+pub fn maghnelt_point_to_plane_sigma(
     plane: &[f64],
     centroid: &[f64],
     plane_covariance: &[f64],
@@ -151,16 +130,14 @@ pub extern "C" fn maghnelt_point_to_plane_sigma(
 }
 
 // The map that an index list makes of a map.
-#[unsafe(no_mangle)]
-pub extern "C" fn maghnelt_remap(map: &[u32], list: &[u32], out: &mut [u32]) -> u32
+pub fn maghnelt_remap(map: &[u32], list: &[u32], out: &mut [u32]) -> u32
     ensures { Answered (remap_refusal map.now list.now out.old) result out.old out.new (remapped map.now list.now) }
 {
     normal_blocks::remap(map, list, out)
 }
 
 // A further transform multiplies that of one word of a map, from the left.
-#[unsafe(no_mangle)]
-pub extern "C" fn maghnelt_transform(
+pub fn maghnelt_transform(
     dof: u32,
     map: &[u32],
     shapes: &[u32],
@@ -187,8 +164,7 @@ pub extern "C" fn maghnelt_transform(
 }
 
 // The frames of a plane and its fixed set centred, the point total, and whether the fixed set was dropped.
-#[unsafe(no_mangle)]
-pub extern "C" fn maghnelt_frames_build(
+pub fn maghnelt_frames_build(
     dof: u32,
     frames: &[f64],
     fixed: &[f64],
@@ -213,8 +189,7 @@ pub extern "C" fn maghnelt_frames_build(
 }
 
 // The same by the survey rule, which refuses a fixed count below 0.
-#[unsafe(no_mangle)]
-pub extern "C" fn maghnelt_frames_build_strict(
+pub fn maghnelt_frames_build_strict(
     dof: u32,
     frames: &[f64],
     fixed: &[f64],
@@ -239,8 +214,7 @@ pub extern "C" fn maghnelt_frames_build_strict(
 }
 
 // The mean and the scatter of what a plane is fitted to.
-#[unsafe(no_mangle)]
-pub extern "C" fn maghnelt_frames_fit(
+pub fn maghnelt_frames_fit(
     dof: u32,
     frames: &[f64],
     fixed: &[f64],
@@ -253,8 +227,7 @@ pub extern "C" fn maghnelt_frames_fit(
 }
 
 // The cost of the frames and the fixed set under the fitted plane, and each mapped frame's block and vector added to the normal equations.
-#[unsafe(no_mangle)]
-pub extern "C" fn maghnelt_frames_accumulate(
+pub fn maghnelt_frames_accumulate(
     dof: u32,
     frames: &[f64],
     fixed: &[f64],
@@ -283,8 +256,7 @@ pub extern "C" fn maghnelt_frames_accumulate(
 }
 
 // The same through transforms that lie beside the map.
-#[unsafe(no_mangle)]
-pub extern "C" fn maghnelt_frames_accumulate_transformed(
+pub fn maghnelt_frames_accumulate_transformed(
     dof: u32,
     frames: &[f64],
     fixed: &[f64],
@@ -317,8 +289,7 @@ pub extern "C" fn maghnelt_frames_accumulate_transformed(
 }
 
 // Four residuals for each frame and the fixed set, and their Jacobian by columns.
-#[unsafe(no_mangle)]
-pub extern "C" fn maghnelt_frames_linearize(
+pub fn maghnelt_frames_linearize(
     dof: u32,
     frames: &[f64],
     fixed: &[f64],
@@ -343,21 +314,14 @@ pub extern "C" fn maghnelt_frames_linearize(
 }
 
 // The centroid and the scatter of a bundle's points.
-#[unsafe(no_mangle)]
-pub extern "C" fn maghnelt_bundle_fit(
-    counts: &[u32],
-    points: &[f64],
-    fixed: &[f64],
-    out: &mut [f64],
-) -> u32
+pub fn maghnelt_bundle_fit(counts: &[u32], points: &[f64], fixed: &[f64], out: &mut [f64]) -> u32
     ensures { Fits counts.now points.now fixed.now out.old result out.new }
 {
     plane_bundle::fit(counts, points, fixed, out)
 }
 
 // A residual for each point of a bundle, the fixed ones last, and their Jacobian by columns.
-#[unsafe(no_mangle)]
-pub extern "C" fn maghnelt_bundle_linearize(
+pub fn maghnelt_bundle_linearize(
     dof: u32,
     counts: &[u32],
     points: &[f64],
@@ -384,8 +348,7 @@ pub extern "C" fn maghnelt_bundle_linearize(
 }
 
 // The cost of a match list, and its block and vector added to the normal equations.
-#[unsafe(no_mangle)]
-pub extern "C" fn maghnelt_matches_accumulate(
+pub fn maghnelt_matches_accumulate(
     dof: u32,
     matches: &[f64],
     action: &[f64],
@@ -400,8 +363,7 @@ pub extern "C" fn maghnelt_matches_accumulate(
 }
 
 // The same through the transform of word 0.
-#[unsafe(no_mangle)]
-pub extern "C" fn maghnelt_matches_accumulate_transformed(
+pub fn maghnelt_matches_accumulate_transformed(
     dof: u32,
     matches: &[f64],
     action: &[f64],
@@ -420,8 +382,7 @@ pub extern "C" fn maghnelt_matches_accumulate_transformed(
 }
 
 // The residual of each match, and their Jacobian by columns.
-#[unsafe(no_mangle)]
-pub extern "C" fn maghnelt_matches_linearize(
+pub fn maghnelt_matches_linearize(
     dof: u32,
     matches: &[f64],
     action: &[f64],
@@ -434,8 +395,7 @@ pub extern "C" fn maghnelt_matches_linearize(
 }
 
 // The residual of one match below its chain, and its row.
-#[unsafe(no_mangle)]
-pub extern "C" fn maghnelt_match_linearize(
+pub fn maghnelt_match_linearize(
     dof: u32,
     matched: &[f64],
     world: &[f64],
