@@ -140,16 +140,20 @@ sum_float x y s a t b h k n =
     add_values binary64 x y s a t b h k ∙ r.is ∙ float_rounded r.sign r.size (λ m. n (r.minus m)) ∙ ap float_of r.exact
 
 -- the float of a whole number and another number that is whole, of either zero. Nothing is asked of the sum's size: both sides round it once.
-pub float_plus : (z w : ℤ) (y : Float) → nat_abs z ≤ 2 ^ 53 → Whole y w → add binary64 (float_of z) y ≡ float_of (z +ℤ w)
+pub float_and_whole : (z w : ℤ) (y : Float) → nat_abs z ≤ 2 ^ 53 → Whole y w → add binary64 (float_of z) y ≡ float_of (z +ℤ w)
 unfolding of_int
-float_plus (pos n) w y h (t, b, k, q) =
+float_and_whole (pos n) w y h (t, b, k, q) =
     sum_float (float_of (pos n)) y false n t b (round_whole binary64 false n h) k (λ m. absurd (false≢true m.0)) ∙ ap (λ (u : ℤ). float_of (pos n +ℤ u)) q
-float_plus (negsuc n) w y h (t, b, k, q) =
+float_and_whole (negsuc n) w y h (t, b, k, q) =
     sum_float (float_of (negsuc n)) y true (suc n) t b (round_whole binary64 true (suc n) h) k (λ m. absurd (omega (arith, m.1))) ∙ ap (λ (u : ℤ). float_of (negsuc n +ℤ u)) q
 
 -- the floats of two whole numbers
 pub float_sum : (z w : ℤ) → nat_abs z ≤ 2 ^ 53 → nat_abs w ≤ 2 ^ 53 → add binary64 (float_of z) (float_of w) ≡ float_of (z +ℤ w)
-float_sum z w h k = float_plus z w (float_of w) h (float_whole w k)
+float_sum z w h k = float_and_whole z w (float_of w) h (float_whole w k)
+
+-- and of two natural numbers
+pub float_plus : (n k : ℕ) → n ≤ 2 ^ 53 → k ≤ 2 ^ 53 → add binary64 (float_of (pos n)) (float_of (pos k)) ≡ float_of (pos (n + k))
+float_plus n k h l = float_sum (pos n) (pos k) h l
 
 -- ---- the product of two whole numbers, exact where it is at most 2^53 in size. One of them being 0, it may be -0.
 signed_product : (s : Bool) (a : ℕ) (t : Bool) (b : ℕ) → signed (unlike s t) (a * b) ≡ signed s a *ℤ signed t b

@@ -9,7 +9,7 @@ use lib.Ieee.{binary64, of_bits, to_bits, add, mul, of_int, round}
 use Rattle.counts.specs.Whole.{float_of, Whole}
 use Rattle.counts.specs.Saturation.{push_saturates, merge_saturates}
 use Rattle.counts.specs.Pushes.{some_push_saturates}
-use Rattle.counts.proofs.Whole.{float_whole, float_plus, whole_product}
+use Rattle.counts.proofs.Whole.{float_whole, float_and_whole, whole_product}
 use Rattle.counts.proofs.Exact.{push_exact, merge_exact, merge_pushes}
 
 -- two counts, and whether their merge is refused
@@ -139,5 +139,5 @@ product-minus-zero = refl
 
 pub zero-and-product : add binary64 (float_of (pos 0)) (mul binary64 (float_of (negsuc 0)) (float_of (pos 0))) ≡ float_of (pos 0)
 zero-and-product =
-    float_plus (pos 0) (pos 0) (mul binary64 (float_of (negsuc 0)) (float_of (pos 0))) (omega arith)
+    float_and_whole (pos 0) (pos 0) (mul binary64 (float_of (negsuc 0)) (float_of (pos 0))) (omega arith)
     (whole_product (float_of (negsuc 0)) (float_of (pos 0)) (negsuc 0) (pos 0) (float_whole (negsuc 0) (omega arith)) (float_whole (pos 0) (omega arith)) (omega arith))

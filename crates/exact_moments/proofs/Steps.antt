@@ -11,7 +11,7 @@ use Rattle.sums.specs.Sum.{◌⊕◌, ◌⊗◌}
 use Rattle.sums.specs.Laws.{tab-same, grid-same}
 use Rattle.lists.specs.Part.{◌!◌}
 use Rattle.counts.specs.Whole.{float_of, Whole}
-use Rattle.counts.proofs.Whole.{float_whole, float_plus, float_sum}
+use Rattle.counts.proofs.Whole.{float_whole, float_and_whole, float_sum}
 use Rattle.point_moments.specs.declared.PointMoments.{PointMoments}
 use Rattle.point_moments.specs.Moments as Moments
 use Rattle.point_moments.proofs.Counts.{one_is}
@@ -28,7 +28,7 @@ exact_none = refl
 
 -- ---- one number of the record: a point more, and two sets together
 one_more : (f : List ℤ → ℤ) (l : List (List ℤ)) (q : List ℤ) (y : Float) → nat_abs (total f l) ≤ 2 ^ 53 → Whole y (f q) → float_of (total f l) ⊕ y ≡ float_of (total f (l ++ (q ∷ [])))
-one_more f l q y h w = float_plus (total f l) (f q) y h w ∙ ap float_of (sym (total_more f l q))
+one_more f l q y h w = float_and_whole (total f l) (f q) y h w ∙ ap float_of (sym (total_more f l q))
 
 together : (f : List ℤ → ℤ) (l m : List (List ℤ)) → nat_abs (total f l) ≤ 2 ^ 53 → nat_abs (total f m) ≤ 2 ^ 53 → float_of (total f l) ⊕ float_of (total f m) ≡ float_of (total f (l ++ m))
 together f l m h k = float_sum (total f l) (total f m) h k ∙ ap float_of (sym (total-append f l m))

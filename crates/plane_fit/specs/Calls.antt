@@ -18,7 +18,7 @@ bad_records size most list = not (eqb (length list % size) 0) || ltb most (lengt
 abbrev pub bad_frames : List Float → Bool
 bad_frames frames = bad_records CENTRED most_frames frames
 
--- 3: a fixed slice is 0 or CENTRED numbers, which is at most one record (`fixed-good` and `whole-fixed`)
+-- 3: a fixed slice is 0 or CENTRED numbers, which is at most one record (`fixed_good` and `whole_fixed`)
 abbrev pub bad_fixed : List Float → Bool
 bad_fixed fixed = bad_records CENTRED 1 fixed
 

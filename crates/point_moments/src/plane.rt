@@ -14,7 +14,7 @@ pub enum MomentsPlane {
 }
 
 impl PointMoments {
-    // None for fewer than three points or no unique normal. A count that is not below 3 has a mean: `has-mean` of the proofs.
+    // None for fewer than three points or no unique normal. A count that is not below 3 has a mean: `has_mean` of the proofs.
     pub fn plane(self, decomposition: &[u64]) -> MomentsPlane
         requires { length decomposition.now ≡ DECOMPOSITION }
         ensures { result ≡ plane_of self decomposition.now }

@@ -1,4 +1,4 @@
--- `sqrtOf`, which computes, gives the `IsSquareRoot` of what it is given, a value has one only, and no other value is equally near. Assumes nothing.
+-- `sqrt_of`, which computes, gives the `IsSquareRoot` of what it is given, a value has one only, and no other value is equally near. Assumes nothing.
 use Rattle.std.proofs.Common.{◌≡◌, ℕ, zero, suc, ◌+◌, ◌-◌, ◌*◌, ◌/◌, ◌^◌, ◌<◌, ◌≤◌, Bool, true, false, cond, not, T, eqb, ltb, leb, ℤ, sym, refl, ap, ◌∙◌, subst, inl, inr, zero-le, le_trans, le_of_eq, le_refl, lt_of_lt_of_le, lt_of_le_of_lt, le_of_lt, mul-le-mul_right, zero-lt-suc, mul_assoc, lt-suc_self, suc-mul, mul_comm, div-lt_iff_lt-mul, eq-zero-or-pos, mul-le-mul_left, mul-lt-mul_of_pos_right, mul-pos, one-mul, pow-suc, lt_of_not-le, le-div_iff_mul-le, mul-one, mul_right_comm, not-le_of_lt, div-mul-le_self, mul-div_cancel, arith, eqb→eq, lt→ltb, leb→le, pow_pos, pow_mono, pow-add}
 use Prim.Native.Nat.{compare, Ordering}
 use native.Mathlib.Nat.{mul-mul-mul_comm, pow-succ'}
@@ -200,7 +200,7 @@ odd_power o m a b t e h = go (dec_le a b)
         left : (m c : ℕ) → m * (2 * c) ≡ 2 * (m * c)
         left m c = sym (mul_assoc m 2 c) ∙ ap (λ (z : ℕ). z * c) (mul_comm m 2) ∙ mul_assoc 2 m c
 
--- ---- `roundRoot`
+-- ---- `round_root`
 -- from the whole part w of the root on
 abbrev core : Format → ℕ → ℕ → Float
 core f n w = units f false (nearest (keeps (prec f) w) (compare (4 * n) (mean (prec f) w * mean (prec f) w))) (drops (prec f) w)
@@ -296,7 +296,7 @@ module _ (f : Format) (x : Float) (m j w : ℕ) (vx : HasValue x false (m * 2 ^ 
       nearer f x (core f (m * 2 ^ j * 2 ^ low f) w) (m * 2 ^ j) (drops (prec f) w) result vx (units_val f false result (drops (prec f) w) in_range)
       (rounds (prec f) (m * 2 ^ j * 2 ^ low f) w P N root no_tie) core_fits
 
--- ---- `sqrtOf` is a square root
+-- ---- `sqrt_of` is a square root
 pub positive_root : (f : Format) (m : ℕ) (e : ℤ) → T (fits f (fin false (suc m) e)) → Nearer f (fin false (suc m) e) (round_root f (suc m * up e * 2 ^ (low f + low f) / down e))
 positive_root f m e t =
     let z = on_grid f false (suc m) e t in

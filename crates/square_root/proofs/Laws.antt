@@ -21,6 +21,6 @@ pub root_unique : (f : Format) (x r s : Float) → IsSquareRoot f x r → IsSqua
 root_unique = unique
 
 -- Of an x of the format that is finite and above zero, no other finite value of the format is as near to √x as its root, so the rule for ties has nothing to decide.
--- (Of an x with more digits than the format's there may be two; `root-unique` holds there by that rule.)
+-- (Of an x with more digits than the format's there may be two; `root_unique` holds there by that rule.)
 pub no_tie : (f : Format) (x r y : Float) → T (fits f x) → T (positive x) → IsSquareRoot f x r → T (fits f y) → T (finite y) → (y ≡ r → ⊥) → Tie x r y → ⊥
 no_tie = untied

@@ -1,4 +1,4 @@
--- `exported_calls::read_and_written` meets its contract: the exported contracts of the two calls, and `read-then-write`. Assumes nothing.
+-- `exported_calls::read_and_written` meets its contract: the exported contracts of the two calls, and `read_then_write`. Assumes nothing.
 use Rattle.cards.proofs.Restored.{read_then_write}
 use Rattle.exported_calls.proofs.read_and_written.Goals as goal
 

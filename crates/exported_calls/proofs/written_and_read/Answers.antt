@@ -1,4 +1,4 @@
--- `exported_calls::written_and_read` meets its contract: the exported contracts of the two calls, and `write-then-read`. Assumes nothing.
+-- `exported_calls::written_and_read` meets its contract: the exported contracts of the two calls, and `write_then_read`. Assumes nothing.
 use Rattle.cards.proofs.Restored.{write_then_read}
 use Rattle.exported_calls.proofs.written_and_read.Goals as goal
 

@@ -1,4 +1,4 @@
--- `cards::places::table` meets its contract: antt works out the list that the rule gives and compares it with the table, and `getD-listed` gives the rule at
+-- `cards::places::table` meets its contract: antt works out the list that the rule gives and compares it with the table, and `get_or-listed` gives the rule at
 -- each entry. Assumes nothing.
 use Prim.Native.Nat.{◌+◌, ◌*◌, ◌/◌, ◌%◌}
 use mathlib.Core.Path.{◌≡◌, ◌∙◌}
