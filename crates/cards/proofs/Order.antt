@@ -7,7 +7,7 @@ use native.Mathlib.Omega.{arith}
 use lib.ListN.{length, get_or}
 use lib.Seq.{ext_get_or}
 use Rattle.point_moments.specs.Moments.{MOMENTS}
-use Rattle.cards.specs.Card.{GROUP, GROUPED, card_place, grouped, place_of, card_of}
+use Rattle.cards.specs.Card.{GROUP, GROUPED, card_place, grouped, card_of}
 use Rattle.cards.proofs.EachPlace.{list_place, place_in_group, place_last}
 use Rattle.cards.proofs.Carried.{on_card}
 

@@ -1,8 +1,8 @@
 -- A block that is added some columns at a time. A definition, and its laws over the number of columns. Assumes nothing.
-use Rattle.std.specs.Prelude.{ℕ, zero, suc, ◌+◌, ◌≡◌, refl, Float}
+use Rattle.std.specs.Prelude.{ℕ, zero, suc, ◌+◌, ◌≡◌, Float}
 use Rattle.std.proofs.Common.{add-zero, add-suc, zero-add, ◌∙◌}
 use Rattle.std.proofs.Math.Path.{sym, ap}
-use mathlib.Core.List.{List, [], ◌∷◌, ◌++◌, append_assoc, append-nil}
+use mathlib.Core.List.{List, ◌++◌, append_assoc, append-nil}
 use Rattle.terms.specs.Terms.{Term, add_all, upto, segment, column_at, cell_of, block}
 use Rattle.terms.proofs.Laws.{add_all-append, upto-none, upto_more, upto-same}
 

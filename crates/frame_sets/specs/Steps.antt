@@ -1,6 +1,6 @@
 -- What the functions on sets have on the way: a slice that is empty or one set, and one frame more centred. Assumes nothing.
 use Rattle.std.specs.Prelude.{◌≡◌, refl, ◌⊎◌, false, true, not, List, [], ◌∷◌, ℕ, ◌+◌, ◌-◌, ◌<◌, ◌≤◌, length, take, drop, Float}
-use Rattle.std.proofs.Common.{sym, ap, ◌∙◌, ⊎_elim, suc-ne-zero, arith, length-take, length-drop, drop-drop}
+use Rattle.std.proofs.Common.{ap, ◌∙◌, ⊎_elim, suc-ne-zero, arith, length-take, length-drop, drop-drop}
 use Rattle.std.specs.Float.Ieee.{le}
 use borrow.Rule.Slice.PartMut.{put_mid}
 use Rattle.sums.specs.Sum.{zero_f}

@@ -5,7 +5,7 @@ use Rattle.std.specs.Float.{nan}
 use Rattle.sums.specs.Sum.{◌⊕◌, ◌⊗◌, zero_f, sum_from}
 use Rattle.sums.specs.Laws.{sum_from_more, sum_from-same, sum_from_parts, up_to}
 use Rattle.lists.specs.Part.{◌!◌}
-use Rattle.match_sums.specs.Groups.{GROUP, groups, group_size, group_sum}
+use Rattle.match_sums.specs.Groups.{GROUP, group_size, group_sum}
 use Rattle.match_sums.specs.Cells.{Raised, Upper, Added, Summed, cell, squares, slants}
 
 -- ---- raised: before the first turn, and after one more

@@ -11,7 +11,7 @@ use Rattle.point_moments.specs.declared.PointMoments.{PointMoments}
 use Rattle.point_moments.specs.Moments.{MOMENTS, moments_list, of_points, with_point, merged, point_reasons}
 use Rattle.point_moments.proofs.Laws.{moments_again}
 use Rattle.counted_moments.specs.Counted as Counted
-use Rattle.moment_lists.specs.Calls.{gather_refusal, gathered, FromPoints, push_refusal, pushed, Pushes, merge_refusal, joined, Merges}
+use Rattle.moment_lists.specs.Calls.{gathered, FromPoints, push_refusal, pushed, Pushes, merge_refusal, joined, Merges}
 use Rattle.moment_lists.proofs.FromPoints.{no_push_refused}
 
 pub gather_taken : (p m m' : List Float) (r : ℕ) → length m ≡ MOMENTS → first_of (point_reasons p) ≡ 0 → FromPoints p m r m' → (r ≡ 0) × (m' ≡ moments_list (of_points (length p / 3) p))

@@ -1,12 +1,10 @@
 -- `block_transforms::some_exceeds` meets its contract: after k turns none of the first k frames exceeds the order. Assumes nothing.
 use borrow.Author.Rules.{rules}
 use native.Mathlib.Omega.{arith}
-use Prim.Native.Nat.{◌-◌}
 use mathlib.Core.Path.{◌≡◌, sym}
-use mathlib.Core.Bool.{false}
 use Rattle.normal_blocks.specs.Somewhere.{nowhere-none, nowhere_more, somewhere-at}
-use Rattle.normal_blocks.specs.Map.{lookup, exceeds_at, some_exceeds}
-use Rattle.block_transforms.specs.Transform.{shape_at, width_at}
+use Rattle.normal_blocks.specs.Map.{exceeds_at, some_exceeds}
+use Rattle.block_transforms.specs.Transform.{width_at}
 use Rattle.block_transforms.proofs.some_exceeds.Goals as goal
 
 pub loop-k-init : goal.loop-k-init

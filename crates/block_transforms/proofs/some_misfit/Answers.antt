@@ -1,11 +1,8 @@
 -- `block_transforms::some_misfit` meets its contract: after k turns none of the first k words has a transform that does not fit. Assumes nothing.
 use borrow.Author.Rules.{rules}
 use native.Mathlib.Omega.{arith}
-use Prim.Native.Nat.{◌-◌}
 use mathlib.Core.Path.{◌≡◌, sym}
-use mathlib.Core.Bool.{false}
 use Rattle.normal_blocks.specs.Somewhere.{nowhere-none, nowhere_more, somewhere-at}
-use Rattle.block_transforms.specs.Transform.{shape_at}
 use Rattle.block_transforms.specs.Reasons.{misfit_at, some_misfit}
 use Rattle.block_transforms.proofs.some_misfit.Goals as goal
 

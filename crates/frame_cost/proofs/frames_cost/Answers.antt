@@ -1,6 +1,6 @@
 -- `frame_cost::frames_cost` meets its contract: whenever a batch starts, the costs of the frames before it are summed. Assumes nothing.
 use mathlib.Core.Path.{◌≡◌, refl, sym, ◌∙◌}
-use Prim.Native.Nat.{◌+◌, ◌-◌}
+use Prim.Native.Nat.{◌+◌}
 use native.Mathlib.Omega.{arith}
 use borrow.Author.Rules.{rules}
 use Rattle.sums.specs.Sum.{zero_f, sum_from}

@@ -1,6 +1,5 @@
 -- `frame_cost::with_costs` meets its contract: after k turns the first k costs are added. Assumes nothing.
 use mathlib.Core.Path.{◌≡◌, refl}
-use Prim.Native.Nat.{◌-◌}
 use native.Mathlib.Omega.{arith}
 use borrow.Author.Rules.{rules}
 use Rattle.sums.specs.Laws.{sum_from_more}

@@ -1,5 +1,5 @@
 -- `frame_roots::put_roots` meets its contract: after k turns the roots of the batch's first k frames are there. Assumes nothing.
-use Prim.Native.Nat.{◌+◌, ◌-◌}
+use Prim.Native.Nat.{◌+◌}
 use mathlib.Core.Path.{◌≡◌}
 use native.Mathlib.Omega.{arith}
 use borrow.Author.Rules.{rules}

@@ -1,5 +1,4 @@
 -- `frame_sets::sum_counts` meets its contract: after k turns the first k counts are summed, and it is known whether one is at or below 0. Assumes nothing.
-use Prim.Native.Nat.{◌-◌}
 use mathlib.Core.Path.{◌≡◌, refl, sym}
 use native.Mathlib.Numerals.{add-one}
 use native.Mathlib.Omega.{arith}

@@ -1,5 +1,4 @@
 -- `map_planes::list_refusal` meets its contract: the first match that has a reason. Assumes nothing.
-use Prim.Native.Nat.{◌-◌}
 use mathlib.Core.Path.{◌≡◌, refl, sym, ◌∙◌}
 use native.Mathlib.Omega.{arith}
 use Rattle.terms.specs.Terms.{upto}

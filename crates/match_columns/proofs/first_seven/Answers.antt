@@ -1,5 +1,4 @@
 -- `match_columns::first_seven` meets its contract: match after match, its residual and its entries. Assumes nothing.
-use Prim.Native.Nat.{◌-◌}
 use mathlib.Core.Path.{refl}
 use native.Mathlib.Omega.{arith}
 use borrow.Author.Rules.{rules}

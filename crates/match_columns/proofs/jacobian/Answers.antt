@@ -1,5 +1,4 @@
 -- `match_columns::jacobian` meets its contract: after each turn the columns before the next one are there. Assumes nothing.
-use Prim.Native.Nat.{◌-◌}
 use mathlib.Core.Path.{◌≡◌, ◌∙◌}
 use native.Mathlib.Omega.{arith}
 use borrow.Author.Rules.{rules}

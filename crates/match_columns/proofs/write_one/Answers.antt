@@ -1,5 +1,4 @@
 -- `match_columns::write_one` meets its contract: match after match. Assumes nothing.
-use Prim.Native.Nat.{◌-◌}
 use mathlib.Core.Path.{sym}
 use native.Mathlib.Nat.{add-zero}
 use native.Mathlib.Omega.{arith}

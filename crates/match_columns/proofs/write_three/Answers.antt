@@ -1,5 +1,4 @@
 -- `match_columns::write_three` meets its contract: match after match, an entry in each of the three columns. Assumes nothing.
-use Prim.Native.Nat.{◌-◌}
 use mathlib.Core.Path.{sym}
 use native.Mathlib.Nat.{add-zero}
 use native.Mathlib.Omega.{arith}

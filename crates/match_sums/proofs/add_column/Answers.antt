@@ -1,6 +1,6 @@
 -- `match_sums::add_column` meets its contract: cell after cell of one column. Assumes nothing.
 use Rattle.lists.specs.Part.{◌!◌}
-use Prim.Native.Nat.{◌-◌, ◌+◌, ◌*◌}
+use Prim.Native.Nat.{◌+◌, ◌*◌}
 use mathlib.Core.Path.{◌≡◌, refl}
 use native.Mathlib.Omega.{arith}
 use Rattle.sums.specs.Sum.{◌⊗◌}

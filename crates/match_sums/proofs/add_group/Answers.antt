@@ -1,5 +1,5 @@
 -- `match_sums::add_group` meets its contract: whenever a batch starts, the matches before it are added. Assumes nothing.
-use Prim.Native.Nat.{◌-◌, ◌+◌}
+use Prim.Native.Nat.{◌+◌}
 use mathlib.Core.Path.{◌≡◌, refl, ap, ◌∙◌}
 use native.Mathlib.Omega.{arith}
 use Rattle.sums.specs.Sum.{zero_f, sum_from}

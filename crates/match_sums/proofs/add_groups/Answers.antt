@@ -1,5 +1,4 @@
 -- `match_sums::add_groups` meets its contract: group after group. Assumes nothing.
-use Prim.Native.Nat.{◌-◌}
 use mathlib.Core.Path.{◌≡◌, refl}
 use native.Mathlib.Omega.{arith}
 use Rattle.match_sums.specs.Groups.{by_groups, groups, match_count, list_cost}

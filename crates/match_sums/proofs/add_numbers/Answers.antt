@@ -1,6 +1,5 @@
 -- `match_sums::add_numbers` meets its contract: number after number. Assumes nothing.
 use Rattle.lists.specs.Part.{◌!◌}
-use Prim.Native.Nat.{◌-◌}
 use mathlib.Core.Path.{◌≡◌, refl}
 use native.Mathlib.Omega.{arith}
 use lib.ListN.{length}

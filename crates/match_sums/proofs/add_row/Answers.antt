@@ -1,6 +1,5 @@
 -- `match_sums::add_row` meets its contract: column after column. Assumes nothing.
 use Rattle.lists.specs.Part.{◌!◌}
-use Prim.Native.Nat.{◌-◌}
 use mathlib.Core.Path.{◌≡◌, refl}
 use native.Mathlib.Omega.{arith}
 use Rattle.sums.specs.Sum.{◌⊗◌}

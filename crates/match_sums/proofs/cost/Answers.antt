@@ -1,5 +1,5 @@
 -- `match_sums::cost` meets its contract: group after group. Assumes nothing.
-use Prim.Native.Nat.{◌-◌, ◌*◌, ◌+◌}
+use Prim.Native.Nat.{◌*◌, ◌+◌}
 use mathlib.Core.Path.{◌≡◌, refl, ap, ◌∙◌}
 use native.Mathlib.Omega.{arith}
 use Rattle.sums.specs.Sum.{zero_f, sum_from}

@@ -1,10 +1,8 @@
 -- `match_sums::fill_batch` meets its contract: after k turns the numbers of the batch's first k matches are stored. Assumes nothing.
-use Prim.Native.Nat.{◌-◌}
 use mathlib.Core.Path.{◌≡◌}
 use native.Mathlib.Nat.{not-suc-le-zero}
 use native.Mathlib.Omega.{arith}
 use Rattle.sums.specs.Fill.{first_more}
-use Rattle.match_rows.specs.Row.{residual_at, information_at}
 use borrow.Author.Rules.{rules}
 use Rattle.match_sums.proofs.fill_batch.Goals as goal
 
@@ -14,8 +12,7 @@ loop-k-init c =
 
 pub loop-k-preserved : goal.loop-k-preserved
 loop-k-preserved c =
-    let at = c.loop-k in
-    (
+    let at = c.loop-k in (
       search rules,
       search rules,
       search rules,

@@ -1,5 +1,4 @@
 -- `match_sums::group_cost` meets its contract: match after match. Assumes nothing.
-use Prim.Native.Nat.{◌-◌}
 use mathlib.Core.Path.{◌≡◌, refl}
 use native.Mathlib.Omega.{arith}
 use Rattle.sums.specs.Laws.{sum_from_more}

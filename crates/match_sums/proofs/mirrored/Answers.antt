@@ -1,6 +1,5 @@
 -- `match_sums::mirrored` meets its contract: filled column by column. Assumes nothing.
 use Rattle.lists.specs.Part.{◌!◌}
-use Prim.Native.Nat.{◌-◌}
 use mathlib.Core.Path.{ap}
 use native.Mathlib.Omega.{arith}
 use lib.ListN.{get_or}

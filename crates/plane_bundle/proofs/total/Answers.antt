@@ -1,5 +1,4 @@
 -- `plane_bundle::total` meets its contract: after k turns the first k counts are summed. Assumes nothing.
-use Prim.Native.Nat.{◌-◌}
 use mathlib.Core.Path.{refl, sym, ap, ◌∙◌}
 use native.Mathlib.Omega.{arith}
 use lib.Seq.{take_all}

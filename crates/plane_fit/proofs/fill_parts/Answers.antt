@@ -1,6 +1,6 @@
 -- `plane_fit::fill_parts` meets its contract: after k turns the parts of the batch's first k frames are in their places. Assumes nothing.
 use mathlib.Core.Path.{◌≡◌, ap, ◌∙◌}
-use Prim.Native.Nat.{◌+◌, ◌-◌}
+use Prim.Native.Nat.{◌+◌}
 use native.Mathlib.Omega.{arith}
 use borrow.Author.Rules.{rules}
 use Rattle.point_moments.specs.Scatter.{centred_of}

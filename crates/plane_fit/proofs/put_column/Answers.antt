@@ -1,5 +1,4 @@
 -- `plane_fit::put_column` meets its contract: entry after entry of one column. Assumes nothing.
-use Prim.Native.Nat.{◌-◌}
 use mathlib.Core.Path.{◌≡◌, refl}
 use native.Mathlib.Omega.{arith}
 use borrow.Author.Rules.{rules}

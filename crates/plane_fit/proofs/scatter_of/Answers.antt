@@ -1,6 +1,5 @@
 -- `plane_fit::scatter_of` meets its contract: before each batch the parts of the frames before it are added. Assumes nothing.
 use mathlib.Core.Path.{◌≡◌, ◌∙◌}
-use Prim.Native.Nat.{◌-◌}
 use native.Mathlib.Omega.{arith}
 use Rattle.lists.specs.Batch.{batch_fits}
 use Rattle.plane_fit.specs.Parts.{batch_more}

@@ -1,6 +1,5 @@
 -- `plane_fit::weigh` meets its contract: after k turns the first k frames are weighed. Assumes nothing.
 use mathlib.Core.Path.{◌≡◌}
-use Prim.Native.Nat.{◌-◌}
 use native.Mathlib.Numerals.{add-one}
 use native.Mathlib.Omega.{arith}
 use borrow.Author.Rules.{rules}

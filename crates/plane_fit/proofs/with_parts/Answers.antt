@@ -1,5 +1,4 @@
 -- `plane_fit::with_parts` meets its contract: part after part. Assumes nothing.
-use Prim.Native.Nat.{◌-◌}
 use mathlib.Core.Path.{◌≡◌}
 use native.Mathlib.Numerals.{add-one}
 use native.Mathlib.Omega.{arith}

@@ -1,5 +1,4 @@
 -- `transform_maps::made_alone` meets its contract: after e turns the first e numbers are there. Assumes nothing.
-use Prim.Native.Nat.{◌-◌}
 use mathlib.Core.Path.{refl, ◌∙◌}
 use native.Mathlib.Nat.{zero-add}
 use native.Mathlib.Omega.{arith}

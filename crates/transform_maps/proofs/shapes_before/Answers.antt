@@ -1,5 +1,4 @@
 -- `transform_maps::shapes_before` meets its contract: after i turns the first i words are those before the call. Assumes nothing.
-use Prim.Native.Nat.{◌-◌}
 use native.Mathlib.Omega.{arith}
 use mathlib.Core.Path.{sym, ◌∙◌}
 use mathlib.Core.Logic.{⊎_elim, inl, inr}

@@ -1,11 +1,8 @@
 -- `transform_maps::some_wide` meets its contract: after k turns none of the first k words has too wide a transform. Assumes nothing.
 use borrow.Author.Rules.{rules}
 use native.Mathlib.Omega.{arith}
-use Prim.Native.Nat.{◌-◌}
 use mathlib.Core.Path.{◌≡◌, sym}
-use mathlib.Core.Bool.{false}
 use Rattle.normal_blocks.specs.Somewhere.{nowhere-none, nowhere_more, somewhere-at}
-use Rattle.block_transforms.specs.Transform.{shape_at}
 use Rattle.transform_maps.specs.Multiply.{wide_at, some_wide}
 use Rattle.transform_maps.proofs.some_wide.Goals as goal
 

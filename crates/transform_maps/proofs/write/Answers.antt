@@ -1,5 +1,4 @@
 -- `transform_maps::write` meets its contract: after r turns the first r numbers are written. Assumes nothing.
-use Prim.Native.Nat.{◌-◌}
 use mathlib.Core.Path.{refl}
 use borrow.Author.Rules.{rules}
 use Rattle.sums.specs.Fill.{writing_none, writing_more, writing_all}

@@ -1,5 +1,4 @@
 -- `transform_products::add` meets its contract: after k turns the first k sums have grown. Assumes nothing.
-use Prim.Native.Nat.{◌-◌}
 use mathlib.Core.Path.{◌≡◌, refl}
 use native.Mathlib.Omega.{arith}
 use borrow.Author.Rules.{rules}

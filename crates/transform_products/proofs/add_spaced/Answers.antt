@@ -1,5 +1,4 @@
 -- `transform_products::add_spaced` meets its contract: after i turns the first i numbers are added. Assumes nothing.
-use Prim.Native.Nat.{◌-◌}
 use mathlib.Core.Path.{refl}
 use native.Mathlib.Omega.{arith}
 use borrow.Author.Rules.{rules}

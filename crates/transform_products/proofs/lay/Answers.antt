@@ -1,5 +1,4 @@
 -- `transform_products::lay` meets its contract: after i turns the first i rows are written. Assumes nothing.
-use Prim.Native.Nat.{◌-◌}
 use mathlib.Core.Path.{◌≡◌, refl}
 use native.Mathlib.Omega.{arith}
 use borrow.Author.Rules.{rules}

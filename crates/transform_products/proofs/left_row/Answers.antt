@@ -1,5 +1,4 @@
 -- `transform_products::left_row` meets its contract: after r turns the first r products are in each sum. Assumes nothing.
-use Prim.Native.Nat.{◌-◌}
 use mathlib.Core.Path.{◌≡◌, refl}
 use native.Mathlib.Omega.{arith}
 use Rattle.transform_products.proofs.Laws.{row_fits, sums_none, sums_first, sums_more}

@@ -1,5 +1,4 @@
 -- `transform_products::right_at` meets its contract: after k turns the first k products are summed. Assumes nothing.
-use Prim.Native.Nat.{◌-◌}
 use mathlib.Core.Path.{◌≡◌, sym}
 use native.Mathlib.Nat.{add-zero}
 use native.Mathlib.Omega.{arith}

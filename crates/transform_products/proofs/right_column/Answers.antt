@@ -1,5 +1,4 @@
 -- `transform_products::right_column` meets its contract: after i turns the first i sums are there. Assumes nothing.
-use Prim.Native.Nat.{◌-◌}
 use native.Mathlib.Omega.{arith}
 use borrow.Author.Rules.{rules}
 use Rattle.sums.specs.Fill.{filling_none, filling_more, filling_all}

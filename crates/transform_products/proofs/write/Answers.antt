@@ -1,5 +1,4 @@
 -- `transform_products::write` meets its contract: after k turns the first k numbers are written. Assumes nothing.
-use Prim.Native.Nat.{◌-◌}
 use mathlib.Core.Path.{refl}
 use borrow.Author.Rules.{rules}
 use Rattle.sums.specs.Fill.{writing_none, writing_more, writing_all}
