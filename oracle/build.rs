@@ -11,7 +11,7 @@ fn main() {
     println!("cargo:rerun-if-changed={}", library.display());
     if !library.is_file() {
         eprintln!(
-            "There is no {}: run `rt staticlib probe` in the repository, \
+            "There is no {}: run `scripts/library probe` in the repository, \
              or set MAGHNELT_LIB_DIR to the absolute path of a folder that holds libmaghnelt.a and libprobe.a.",
             library.display()
         );

@@ -27,7 +27,7 @@ fn main() {
     println!("cargo:rerun-if-changed={}", library.display());
     if !library.is_file() {
         eprintln!(
-            "There is no {}: run `rt staticlib maghnelt` in the repository, \
+            "There is no {}: run `scripts/library maghnelt` in the repository, \
              or set {FOLDER_VARIABLE} to the absolute path of the folder that holds libmaghnelt.a.",
             library.display()
         );

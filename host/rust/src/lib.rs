@@ -40,7 +40,8 @@
 //! # Linking
 //!
 //! The build script takes the library from the folder that the environment variable `MAGHNELT_LIB_DIR` names (an
-//! absolute path) or, without it, from `target/staticlib` of the repository, where `rt staticlib maghnelt` writes it.
+//! absolute path) or, without it, from `target/staticlib` of the repository, where `scripts/library maghnelt` puts
+//! it.
 //!
 //! # NaN
 //!
