@@ -3,20 +3,19 @@
 use Prim.Native.Nat.{ℕ, zero, suc, ◌+◌, ◌*◌, ◌^◌, ◌≤◌, ◌<◌}
 use mathlib.Core.Path.{◌≡◌, refl, sym, ap, ◌∙◌}
 use mathlib.Core.Bool.{false}
-use mathlib.Core.List.{List, [], ◌∷◌, ◌++◌, map, map-append, append_assoc}
+use mathlib.Core.List.{[], ◌∷◌, map-append, append_assoc}
 use native.Mathlib.Omega.{arith}
 use native.Mathlib.Nat.{zero-mul, suc-mul}
 use lib.ListN.{length, length-append}
-use lib.IntN.{ℤ, pos, ◌+ℤ◌}
+use lib.IntN.{pos, ◌+ℤ◌}
 use lib.Ieee.{of_int, round, add, mul, of_bits, of_fields, odd}
 use Rattle.sums.specs.Sum.{◌⊕◌, ◌⊗◌, at}
-use Rattle.lists.specs.Part.{◌!◌}
 use Rattle.call_lists.specs.Lists.{Every}
 use Rattle.call_lists.specs.ListLaws.{every_append}
 use Rattle.counts.specs.Whole.{float_of, Whole}
 use Rattle.counts.proofs.Whole.{float_whole}
 use Rattle.point_moments.specs.Moments as Moments
-use Rattle.exact_moments.specs.Grid.{Point, whole_of, OnGrid, PointOnGrid, Within, whole_point, coordinate, product, total, exact}
+use Rattle.exact_moments.specs.Grid.{Point, PointOnGrid, Within, whole_point, product, total, exact}
 use Rattle.exact_moments.specs.Plan.{Plan, empty, push, merge, points, wholes, moments}
 use Rattle.exact_moments.proofs.Totals.{total_more}
 use Rattle.exact_moments.proofs.Grid.{whole_of_lem, float_on_grid}

@@ -5,7 +5,7 @@ use mathlib.Core.Bool.{Bool, true, false, not, false≢true}
 use mathlib.Core.List.{List, [], ◌∷◌, ◌++◌, append-nil, append_assoc}
 use native.Mathlib.Omega.{arith}
 use native.Mathlib.Nat.{add-zero, add-suc}
-use lib.ListN.{length, get_or, length-append, get_or-append}
+use lib.ListN.{length, length-append, get_or-append}
 use lib.Seq.{get_or-append-add}
 use lib.Dec.{eqb, ltb}
 use lib.Ieee.{Float, nan}
@@ -18,7 +18,7 @@ use Rattle.call_lists.specs.Lists.{Every}
 use Rattle.call_lists.specs.ListLaws.{every_append}
 use Rattle.point_moments.specs.Moments.{of_points, merged, point_reasons}
 use Rattle.point_moments.specs.Moments as Moments
-use Rattle.exact_moments.specs.Grid.{Point, OnGrid, PointOnGrid, Within, POINTS, REACH, exact}
+use Rattle.exact_moments.specs.Grid.{OnGrid, PointOnGrid, Within, POINTS, REACH, exact}
 use Rattle.exact_moments.specs.Plan.{push, merge, points, wholes, moments, pushes}
 use Rattle.exact_moments.proofs.MomentsExact.{moments-exact}
 

@@ -1,18 +1,17 @@
 -- Points on the grid in whole numbers: which they are, how large their sums get, and parts of a list. Assumes nothing.
 use Prim.Native.Nat.{ℕ, zero, suc, ◌*◌, ◌/◌, ◌^◌, ◌≤◌, ◌<◌}
 use mathlib.Core.Path.{◌≡◌, refl, sym, ap, ◌∙◌}
-use mathlib.Core.Bool.{Bool}
 use mathlib.Core.List.{List, [], ◌∷◌, ◌++◌, map}
 use native.Mathlib.Omega.{arith}
 use native.Mathlib.Nat.{mul-one, mul_comm, le-mul_of_pos_right, mul-le-mul, mul-le-mul_left, mul-le-mul_right, mul-div_cancel, le_trans}
 use lib.ListN.{length, length-append, length-map}
-use lib.IntN.{ℤ, pos, nat_abs, ◌*ℤ◌}
+use lib.IntN.{ℤ, nat_abs}
 use lib.Ieee.{Float, nan, inf, fin, up, down}
 use lib.Ieee.Fits.{down_pos}
 use Rattle.sums.specs.Sum.{◌⊗◌}
 use Rattle.lists.specs.Part.{◌!◌}
 use Rattle.call_lists.specs.Lists.{Every}
-use Rattle.counts.specs.Whole.{signed, float_of, Whole}
+use Rattle.counts.specs.Whole.{float_of, Whole}
 use Rattle.counts.proofs.Whole.{float_whole, whole_product}
 use Rattle.exact_moments.specs.Grid.{Point, whole_of, OnGrid, PointOnGrid, Within, whole_point, coordinate, product, total}
 use Rattle.exact_moments.proofs.Totals.{size_times, total_size}

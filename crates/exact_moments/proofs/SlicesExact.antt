@@ -1,6 +1,6 @@
 -- A host's slices: whatever exported calls made them, each is taken and the slice holds the record of the plan that was followed. So two hosts that gathered, pushed and
 -- merged the same points in any order and cut have the same thirteen numbers. Assumes nothing.
-use Prim.Native.Nat.{ℕ, ◌+◌, ◌/◌, ◌≤◌}
+use Prim.Native.Nat.{◌+◌, ◌/◌, ◌≤◌}
 use mathlib.Core.Path.{◌≡◌, refl, sym, ap, ◌∙◌, subst}
 use mathlib.Core.List.{List, [], ◌∷◌, ◌++◌, Permᴰ}
 use native.Mathlib.Omega.{arith}
@@ -13,7 +13,6 @@ use Rattle.point_moments.specs.Moments as Moments
 use Rattle.moment_lists.specs.Calls.{Pushes, Merges}
 use Rattle.moment_lists.proofs.Records.{Arrays, gather_taken, push_taken, merge_taken}
 use Rattle.exact_moments.specs.Grid.{OnGrid, Within, POINTS, REACH, exact}
-use Rattle.exact_moments.specs.Plan as Plan
 use Rattle.exact_moments.specs.Plan.{Plan, points, wholes, moments, Accepted}
 use Rattle.exact_moments.specs.Slices.{Calls, zeros, gather, push, merge, plan, Sized, Made, Taken}
 use Rattle.exact_moments.proofs.MomentsExact.{moments-exact, none-refused-up-to, same-wholes}

@@ -3,7 +3,6 @@ use Prim.Native.Nat.{ℕ, ◌*◌, ◌^◌, ◌≤◌, ◌<◌}
 use mathlib.Core.Path.{◌≡◌, refl, sym, ap, ◌∙◌}
 use mathlib.Core.List.{List, [], ◌∷◌, ◌++◌, map, map-append}
 use native.Mathlib.Omega.{arith}
-use native.Mathlib.Nat.{le_trans}
 use lib.ListN.{length, length-append, length-map}
 use lib.IntN.{ℤ, pos, nat_abs}
 use lib.Ieee.{Float, of_int, round, of_bits, of_fields, odd}
@@ -11,7 +10,7 @@ use Rattle.sums.specs.Sum.{◌⊕◌, ◌⊗◌}
 use Rattle.sums.specs.Laws.{tab-same, grid-same}
 use Rattle.lists.specs.Part.{◌!◌}
 use Rattle.counts.specs.Whole.{float_of, Whole}
-use Rattle.counts.proofs.Whole.{float_whole, float_and_whole, float_sum}
+use Rattle.counts.proofs.Whole.{float_and_whole, float_sum}
 use Rattle.point_moments.specs.declared.PointMoments.{PointMoments}
 use Rattle.point_moments.specs.Moments as Moments
 use Rattle.point_moments.proofs.Counts.{one_is}

@@ -10,14 +10,11 @@ use lib.Ieee.{Float, nan}
 use Rattle.normal_blocks.specs.Map.{lookup}
 use Rattle.normal_blocks.specs.TargetLaws.{hessian_same, gradient_same}
 use Rattle.call_lists.specs.Frames.{frame_hessian, frame_gradient}
-use Rattle.block_transforms.specs.Transform.{ROOM, entry_from, transformed_block, transformed_vector}
+use Rattle.block_transforms.specs.Transform.{ROOM, entry_from}
 use Rattle.derivative.specs.Action.{action_size}
 use Rattle.point_moments.specs.Scatter.{CENTRED}
-use Rattle.point_moments.specs.declared.scatter.Centred.{Centred}
 use Rattle.plane_fit.specs.Fit.{frame_at, action_at}
-use Rattle.frame_segment.specs.Frame.{block_entry}
-use Rattle.frame_cost.specs.Cost.{frame_cost, cost_at}
-use Rattle.frame_parts.specs.Frame.{vector_entry}
+use Rattle.frame_cost.specs.Cost.{cost_at}
 use Rattle.frame_blocks.specs.Frames.{Continues, first-joined}
 use Rattle.frame_blocks.proofs.Runs.{frame_from, action_from}
 use Rattle.frame_pairs.specs.Pairs.{block_in, vector_in, cost_in, Holds, Parts, through_by, RunAdded, parts_in, PartsAdded}

@@ -1,7 +1,7 @@
 -- The loop over the batches: what it has after so many frames, before the first, after one more batch, and at the end. Assumes nothing.
-use Rattle.std.specs.Prelude.{ℕ, zero, suc, ◌+◌, ◌*◌, ◌<◌, ◌≤◌, ◌≡◌, List, [], ◌++◌, length, take, drop, replicate, Float}
+use Rattle.std.specs.Prelude.{ℕ, zero, suc, ◌+◌, ◌*◌, ◌<◌, ◌≤◌, ◌≡◌, List, [], ◌++◌, length, take, drop, Float}
 use Rattle.std.proofs.Common.{add-zero, arith, ap, ◌∙◌, length-append, length-drop, drop_of_length-le, take_at}
-use Rattle.sums.specs.Sum.{zero_f, grid}
+use Rattle.sums.specs.Sum.{grid}
 use Rattle.sums.specs.Laws.{length-grid}
 use Rattle.sums.specs.Fill.{written, Columns, columns-none, columns_more}
 use Rattle.lists.specs.Part.{◌!◌}

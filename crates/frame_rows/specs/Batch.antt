@@ -1,8 +1,6 @@
 -- The rows of a batch of frames: what they are, and what their room is. Assumes nothing.
-use Rattle.std.specs.Prelude.{ℕ, ◌+◌, ◌*◌, ◌<◌, ◌≤◌, ◌≡◌, refl, List, [], ◌∷◌, length, Float}
+use Rattle.std.specs.Prelude.{ℕ, ◌+◌, ◌*◌, ◌<◌, ◌≤◌, ◌≡◌, List, length, Float}
 use Rattle.std.proofs.Common.{ap, ap₂, ◌∙◌}
-use Rattle.lists.specs.Part.{◌!◌}
-use Rattle.batches.specs.Beside.{beside_of, put_beside, Beside, beside_more}
 use Rattle.action.specs.Carried.{carried}
 use Rattle.derivative.specs.Action.{action_size}
 use Rattle.point_moments.specs.declared.scatter.Centred.{Centred}

@@ -1,5 +1,4 @@
 -- `frame_blocks::add_batch` meets its contract: after k turns the batch's first k frames are added and their costs summed. Assumes nothing.
-use Prim.Native.Nat.{◌-◌}
 use mathlib.Core.Path.{◌≡◌, refl, ◌∙◌}
 use native.Mathlib.Omega.{arith}
 use borrow.Author.Rules.{rules}

@@ -1,5 +1,4 @@
 -- `frame_blocks::add_frames` meets its contract: before each batch the frames up to it are added and their costs summed. Assumes nothing.
-use Prim.Native.Nat.{◌-◌}
 use mathlib.Core.Path.{◌≡◌, refl, ◌∙◌}
 use native.Mathlib.Omega.{arith}
 use borrow.Author.Rules.{rules}

@@ -1,5 +1,5 @@
 -- `frame_blocks::fill_pulls` meets its contract: after k turns the first k pulls are there. Assumes nothing.
-use Prim.Native.Nat.{◌+◌, ◌-◌}
+use Prim.Native.Nat.{◌+◌}
 use mathlib.Core.Path.{◌≡◌}
 use native.Mathlib.Omega.{arith}
 use borrow.Author.Rules.{rules}

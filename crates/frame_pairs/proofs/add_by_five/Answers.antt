@@ -1,5 +1,5 @@
 -- `frame_pairs::add_by_five` meets its contract: before each pair the frames up to it are added and their costs summed. Assumes nothing.
-use Prim.Native.Nat.{◌-◌, ◌*◌}
+use Prim.Native.Nat.{◌*◌}
 use mathlib.Core.Path.{◌≡◌, refl, ◌∙◌}
 use native.Mathlib.Omega.{arith}
 use borrow.Author.Rules.{rules}

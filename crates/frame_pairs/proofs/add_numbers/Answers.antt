@@ -1,5 +1,4 @@
 -- `frame_pairs::add_numbers` meets its contract: after i turns the first i numbers are added. Assumes nothing.
-use Prim.Native.Nat.{◌-◌}
 use mathlib.Core.Path.{refl}
 use native.Mathlib.Omega.{arith}
 use borrow.Author.Rules.{rules}

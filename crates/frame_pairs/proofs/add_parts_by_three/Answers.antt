@@ -1,7 +1,6 @@
 -- `frame_pairs::add_parts_by_three` meets its contract: after k turns the pair's first k parts are added and their costs summed. Assumes nothing.
-use Prim.Native.Nat.{◌+◌, ◌≤◌, ◌-◌}
+use Prim.Native.Nat.{◌+◌}
 use mathlib.Core.Path.{◌≡◌, refl, ap, ◌∙◌}
-use mathlib.Core.Logic.{⊎_elim}
 use native.Mathlib.Omega.{arith}
 use borrow.Author.Rules.{rules}
 use lib.ListN.{length}
@@ -32,7 +31,7 @@ added : (c : Joined-lookup) → let l = c.loop-k in let a = c.args in
     PartAdded (length a.g.now) 3 c.lookup.result a.cells.now l.k l.h c.match-lookup.h l.g c.match-lookup.g
 added c =
     elim c.match-lookup.branch [
-      in-At w ↦ rw (w.h-is, w.g-is) (part_mapped _ _ _ _ _ _ _ _ _ _ w.in-At.is w.add_block.ensures w.add_numbers.ensures)
+      | in-At w ↦ rw (w.h-is, w.g-is) (part_mapped _ _ _ _ _ _ _ _ _ _ w.in-At.is w.add_block.ensures w.add_numbers.ensures)
       | in-Unmapped w ↦ rw (w.h-is, w.g-is) (part_unmapped _ _ _ _ _ _ _ w.in-Unmapped.is)
     ]
 

@@ -1,5 +1,4 @@
 -- `frame_pairs::dot` meets its contract: after r turns the first r products are summed. Assumes nothing.
-use Prim.Native.Nat.{◌-◌}
 use mathlib.Core.Path.{◌≡◌, sym}
 use native.Mathlib.Nat.{add-zero}
 use native.Mathlib.Omega.{arith}

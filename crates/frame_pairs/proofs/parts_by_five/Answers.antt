@@ -1,5 +1,4 @@
 -- `frame_pairs::parts_by_five` meets its contract: after q turns the parts of the first q frames are there. Assumes nothing.
-use Prim.Native.Nat.{◌-◌}
 use mathlib.Core.Path.{◌≡◌, refl, ap, ◌∙◌}
 use native.Mathlib.Omega.{arith}
 use lib.ListN.{length}

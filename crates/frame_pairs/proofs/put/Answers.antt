@@ -1,5 +1,4 @@
 -- `frame_pairs::put` meets its contract: after i turns the first i numbers are put. Assumes nothing.
-use Prim.Native.Nat.{◌-◌}
 use mathlib.Core.Path.{◌≡◌, refl}
 use native.Mathlib.Omega.{arith}
 use borrow.Author.Rules.{rules}

@@ -1,5 +1,4 @@
 -- `frame_pairs::right` meets its contract: after i turns the first i numbers are there. Assumes nothing.
-use Prim.Native.Nat.{◌-◌}
 use mathlib.Core.Path.{refl}
 use native.Mathlib.Nat.{add-zero}
 use borrow.Author.Rules.{rules}

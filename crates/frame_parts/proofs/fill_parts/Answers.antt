@@ -1,5 +1,5 @@
 -- `frame_parts::fill_parts` meets its contract: after k turns the parts of the batch's first k frames are there. Assumes nothing.
-use Prim.Native.Nat.{◌+◌, ◌-◌}
+use Prim.Native.Nat.{◌+◌}
 use mathlib.Core.Path.{◌≡◌, refl}
 use native.Mathlib.Omega.{arith}
 use borrow.Author.Rules.{rules}

@@ -1,5 +1,4 @@
 -- `frame_rows::clear_part` meets its contract: after k turns the first k cells are +0. Assumes nothing.
-use Prim.Native.Nat.{◌-◌}
 use mathlib.Core.Path.{refl}
 use borrow.Author.Rules.{rules}
 use Rattle.sums.specs.Fill.{writing_none, writing_more, writing_all}

@@ -1,5 +1,5 @@
 -- `frame_rows::fill_column` meets its contract: after k turns the batch's first k frames have their column. Assumes nothing.
-use Prim.Native.Nat.{◌+◌, ◌-◌}
+use Prim.Native.Nat.{◌+◌}
 use mathlib.Core.Path.{◌≡◌, refl}
 use native.Mathlib.Omega.{arith}
 use borrow.Author.Rules.{rules}

@@ -1,5 +1,5 @@
 -- `frame_rows::fill_residuals` meets its contract: after k turns the batch's first k frames have their residuals. Assumes nothing.
-use Prim.Native.Nat.{◌+◌, ◌-◌}
+use Prim.Native.Nat.{◌+◌}
 use mathlib.Core.Path.{◌≡◌, refl, ap, ◌∙◌}
 use native.Mathlib.Omega.{arith}
 use borrow.Author.Rules.{rules}

@@ -1,5 +1,4 @@
 -- `frame_stored::store_row` meets its contract: after j turns the first j entries are written. Assumes nothing.
-use Prim.Native.Nat.{◌-◌}
 use mathlib.Core.Path.{refl}
 use borrow.Author.Rules.{rules}
 use Rattle.sums.specs.Fill.{writing_none, writing_more, writing_all}

@@ -1,5 +1,4 @@
 -- `frame_stored::vector_of` meets its contract: after i turns the first i numbers are there. Assumes nothing.
-use Prim.Native.Nat.{◌-◌}
 use mathlib.Core.Path.{refl}
 use borrow.Author.Rules.{rules}
 use Rattle.sums.specs.Fill.{filling_none, filling_more, filling_all}

@@ -1,5 +1,4 @@
 -- `transformed_frames::frames::add_frames` meets its contract: when frame k is reached the frames before it are added and their costs summed. Assumes nothing.
-use Prim.Native.Nat.{◌-◌}
 use mathlib.Core.Path.{◌≡◌, refl, ◌∙◌}
 use native.Mathlib.Omega.{arith}
 use borrow.Author.Rules.{rules}

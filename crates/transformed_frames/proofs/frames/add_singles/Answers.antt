@@ -1,5 +1,4 @@
 -- `transformed_frames::frames::add_singles` meets its contract: each turn adds one frame more after those before it. Assumes nothing.
-use Prim.Native.Nat.{◌-◌}
 use mathlib.Core.Path.{◌≡◌, refl, ◌∙◌}
 use native.Mathlib.Omega.{arith}
 use borrow.Author.Rules.{rules}

@@ -1,5 +1,4 @@
 -- `transformed_frames::frames::run_end` meets its contract: the frames passed have the first one's shape. Assumes nothing.
-use Prim.Native.Nat.{◌-◌}
 use mathlib.Core.Path.{◌≡◌, refl, sym}
 use mathlib.Core.Bool.{Bool, true, false, not}
 use native.Mathlib.Omega.{arith}
