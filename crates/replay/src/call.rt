@@ -1,6 +1,6 @@
 // The calls of the library by their numbers in the sample. The lists of numbers stand in the order of the call's parameters, and so
 // do the words; a single number is a list of one.
-use crate::lists::{
+use crate::case_lists::{
     Numbers, kept, left, left_number, left_word, left_words, number, numbers, word, written, wrote,
 };
 use crate::sample::Sample;

@@ -4,10 +4,10 @@
 
 mod call;
 mod case;
-mod lists;
+mod case_lists;
 mod sample;
 
-use lists::Numbers;
+use case_lists::Numbers;
 use sample::Sample;
 use std::fs::File;
 use std::io;
@@ -20,8 +20,8 @@ fn room() -> Sample {
 
 // Whether the call of a case answers and leaves what it should.
 fn agrees(sample: &Sample, at: usize) -> bool {
-    let mut numbers = lists::no_numbers();
-    lists::lay(sample, at, &mut numbers);
+    let mut numbers = case_lists::no_numbers();
+    case_lists::lay(sample, at, &mut numbers);
     with_numbers(sample, at, &numbers)
 }
 
@@ -40,8 +40,10 @@ fn with_patterns(sample: &Sample, at: usize, numbers: &Numbers, patterns: &[u64]
 // Whether the words that a call does not write are left as they were: its first where that is the freedom, and the second list.
 fn kept_words(sample: &Sample, at: usize, second: &[u32]) -> bool {
     let call = case::call(sample, at);
-    (call < 9 || call == 16 || lists::left_word(sample, at, 0, lists::word(sample, at, 0)))
-        && (call == 10 || lists::left_words(sample, at, 1, second))
+    (call < 9
+        || call == 16
+        || case_lists::left_word(sample, at, 0, case_lists::word(sample, at, 0)))
+        && (call == 10 || case_lists::left_words(sample, at, 1, second))
 }
 
 // How many of the cases agree.

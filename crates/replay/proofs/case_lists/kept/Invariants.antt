@@ -1,6 +1,6 @@
--- `replay::lists::kept` is safe and ends. Assumes nothing.
+-- `replay::case_lists::kept` is safe and ends. Assumes nothing.
 use Rattle.std.proofs.Common.{◌-◌}
-use Rattle.replay.proofs.lists.kept.Given as goal
+use Rattle.replay.proofs.case_lists.kept.Given as goal
 
 abbrev pub invariant-loop-k : goal.invariant-loop-k
 invariant-loop-k l = Unit {0}

@@ -1,6 +1,6 @@
--- `replay::lists::lay` is safe and ends. Assumes nothing.
+-- `replay::case_lists::lay` is safe and ends. Assumes nothing.
 use Rattle.std.proofs.Common.{◌≡◌, ◌-◌, length}
-use Rattle.replay.proofs.lists.lay.Given as goal
+use Rattle.replay.proofs.case_lists.lay.Given as goal
 
 abbrev pub invariant-loop-k : goal.invariant-loop-k
 invariant-loop-k l = length l.out ≡ length l.initial.out
