@@ -116,7 +116,7 @@ pub fn maghnelt_point_to_plane_sigma(
     d_world_d_point: &[f64],
     sigma: &mut f64,
 ) -> u32
-    ensures { SigmaAnswered (record { plane = plane.entry.now; centroid = centroid.now; plane_covariance = plane_covariance.now; point_covariance = point_covariance.now; world = world.now; d_world_d_point = d_world_d_point.now }) result sigma.old sigma.new }
+    ensures { SigmaAnswered (record { plane = plane.now; centroid = centroid.now; plane_covariance = plane_covariance.now; point_covariance = point_covariance.now; world = world.now; d_world_d_point = d_world_d_point.now }) result sigma.old sigma.new }
 {
     plane_lists::point_to_plane_sigma(
         plane,

@@ -11,19 +11,18 @@ use Rattle.plane_bundle.specs.Linearize.{Bundle, linearize_refusal}
 use Rattle.plane_bundle.specs.Steps.{Fitting}
 use Rattle.plane_bundle.proofs.Linearized.{refused-shape, passed_shape}
 use Rattle.plane_bundle.proofs.linearize.Goals as goal
-use Rattle.plane_bundle.proofs.linearize.Goals.{Else-bad-ne0, Start}
+use Rattle.plane_bundle.proofs.linearize.Goals.{Start, After-linearize_shape-bad}
 
 -- what the call was handed
 abbrev handed : Start → Bundle
 handed s = record { dof = s.args.dof; counts = s.args.counts.now; points = s.args.points.now; d_state = s.args.d_state.now; fixed = s.args.fixed.now; sigma = s.args.sigma; decomposition = s.args.decomposition.now }
 
 -- what is known once 1 to 5 are tested
-passed : (e : Else-bad-ne0) → let s = (goal.at.Else-bad-ne0 e).Start in
+passed : (e : After-linearize_shape-bad) → e.linearize_shape-bad.result ≡ 0 → let s = (goal.at.After-linearize_shape-bad e).Start in
     Fitting (handed s) (length e.args.residual.now) (length e.args.jacobian.now)
     × (linearize_refusal (handed s) (length e.args.residual.now) (length e.args.jacobian.now) ≡ first_of (6 when not_finite e.args.points.now e.args.fixed.now ∷ 7 when not (finite_positive e.args.sigma) ∷ []))
-passed e =
-    let none : e.linearize_shape-bad.result ≡ 0 = omega arith in
-    passed_shape (handed (goal.at.Else-bad-ne0 e).Start) (length e.args.residual.now) (length e.args.jacobian.now) (sym e.linearize_shape-bad.ensures ∙ none)
+passed e none =
+    passed_shape (handed (goal.at.After-linearize_shape-bad e).Start) (length e.args.residual.now) (length e.args.jacobian.now) (sym e.linearize_shape-bad.ensures ∙ none)
 
 pub returns-then-bad-ne0 : goal.returns-then-bad-ne0
 returns-then-bad-ne0 c =
@@ -33,23 +32,23 @@ returns-then-bad-ne0 c =
 pub returns-then-some_not_finite : goal.returns-then-some_not_finite
 unfolding not_finite
 returns-then-some_not_finite c =
-    refused ((passed (goal.at.returns-then-some_not_finite c).Else-bad-ne0).1 ∙ rw (sym c.some_not_finite.ensures ∙ c.if-some_not_finite.true))
+    refused ((passed (goal.at.returns-then-some_not_finite c).After-linearize_shape-bad (omega arith)).1 ∙ rw (sym c.some_not_finite.ensures ∙ c.if-some_not_finite.true))
 
 pub returns-then-not-is_positive : goal.returns-then-not-is_positive
 unfolding not_finite
 returns-then-not-is_positive c =
-    refused ((passed (goal.at.returns-then-not-is_positive c).Else-bad-ne0).1 ∙ rw (sym c.some_not_finite.ensures ∙ c.if-some_not_finite.false, ap not (sym c.is_positive.ensures ∙ c.if-not-is_positive.true)))
+    refused ((passed (goal.at.returns-then-not-is_positive c).After-linearize_shape-bad (omega arith)).1 ∙ rw (sym c.some_not_finite.ensures ∙ c.if-some_not_finite.false, ap not (sym c.is_positive.ensures ∙ c.if-not-is_positive.true)))
 
 pub returns : goal.returns
 unfolding not_finite
 returns c =
-    accepted ((passed (goal.at.returns c).Else-bad-ne0).1 ∙ rw (sym c.some_not_finite.ensures ∙ c.if-some_not_finite.false, ap not (sym c.is_positive.ensures ∙ c.if-not-is_positive.false))) c.write_fitted.ensures
+    accepted ((passed (goal.at.returns c).After-linearize_shape-bad (omega arith)).1 ∙ rw (sym c.some_not_finite.ensures ∙ c.if-some_not_finite.false, ap not (sym c.is_positive.ensures ∙ c.if-not-is_positive.false))) c.write_fitted.ensures
 
 pub sums-sums-requires : goal.sums-sums-requires
-sums-sums-requires c = (passed c).0.shaped.taken
+sums-sums-requires c = (passed (goal.at.sums-sums-requires c).After-linearize_shape-bad (omega arith)).0.shaped.taken
 
 pub some_not_finite-requires : goal.some_not_finite-requires
-some_not_finite-requires c = ((passed (goal.at.some_not_finite-requires c).Else-bad-ne0).0.shaped.taken, c.sums-sums.ensures)
+some_not_finite-requires c = ((passed (goal.at.some_not_finite-requires c).After-linearize_shape-bad (omega arith)).0.shaped.taken, c.sums-sums.ensures)
 
 pub write_fitted-requires : goal.write_fitted-requires
-write_fitted-requires c = ((passed (goal.at.write_fitted-requires c).Else-bad-ne0).0, c.sums-sums.ensures)
+write_fitted-requires c = ((passed (goal.at.write_fitted-requires c).After-linearize_shape-bad (omega arith)).0, c.sums-sums.ensures)

@@ -15,23 +15,23 @@ returns-then-shape-ne0 c =
 pub is_negative-requires : goal.is_negative-requires
 is_negative-requires c =
     let s = c.shape_refusal-shape in
-    let none : s.result ≡ 0 = omega (arith, c.if-shape-ne0.false) in
+    let none : s.result ≡ 0 = omega arith in
     (shape_whole _ _ _ _ _ (sym s.ensures ∙ none)).fixed_set
 
 pub returns-then-is_negative : goal.returns-then-is_negative
 returns-then-is_negative c =
     let s = c.shape_refusal-shape in
-    let none : s.result ≡ 0 = omega (arith, c.if-shape-ne0.false) in
+    let none : s.result ≡ 0 = omega arith in
     refused (thirteen _ _ _ _ _ _ (sym s.ensures ∙ none) (sym c.is_negative.ensures ∙ c.if-is_negative.true))
 
 pub build_sets-requires : goal.build_sets-requires
 build_sets-requires c =
     let s = c.shape_refusal-shape in
-    let none : s.result ≡ 0 = omega (arith, c.if-shape-ne0.false) in
+    let none : s.result ≡ 0 = omega arith in
     shape_whole _ _ _ _ _ (sym s.ensures ∙ none)
 
 pub returns : goal.returns
 returns c =
     let s = c.shape_refusal-shape in
-    let none : s.result ≡ 0 = omega (arith, c.if-shape-ne0.false) in
+    let none : s.result ≡ 0 = omega arith in
     rw (sets_decide _ _ _ _ _ _ (sym s.ensures ∙ none) (sym c.is_negative.ensures ∙ c.if-is_negative.false)) c.build_sets.ensures

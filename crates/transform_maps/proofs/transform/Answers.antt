@@ -8,9 +8,9 @@ pub returns-then-why-ne0 : goal.returns-then-why-ne0
 returns-then-why-ne0 c = refused_by (sym c.refusal-why.ensures) (λ z. omega (arith, c.if-why-ne0.true))
 
 pub multiply-requires : goal.multiply-requires
-multiply-requires c = sym c.refusal-why.ensures ∙ omega (arith, c.if-why-ne0.false)
+multiply-requires c = sym c.refusal-why.ensures ∙ omega arith
 
 pub returns : goal.returns
 returns c =
     let did = c.multiply.ensures in
-    accepted (sym c.refusal-why.ensures ∙ omega (arith, c.if-why-ne0.false)) (rw (did.0, did.1))
+    accepted (sym c.refusal-why.ensures ∙ omega arith) (rw (did.0, did.1))

@@ -1,6 +1,6 @@
 -- `plane_moments::accumulate::refusal` meets its contract: the tests in their order. Assumes nothing.
 use mathlib.Core.Path.{◌≡◌, sym, ap, ◌∙◌}
-use mathlib.Core.Bool.{true, not}
+use mathlib.Core.Bool.{true, false, not}
 use borrow.Author.Tests.{lt-ltb, le-ltb, eq-eqb, ne_eqb}
 use Rattle.validate.specs.Finite.{finite_positive}
 use Rattle.normal_blocks.specs.Calls.{map_refusal}
@@ -24,12 +24,13 @@ returns-then-not-is_positive c =
 
 pub returns-then-bad_actions : goal.returns-then-bad_actions
 returns-then-bad_actions c =
+    let good : not (finite_positive c.args.sigma) ≡ false = cc in
     rw (
       plain_refusal,
       le-ltb _ _ c.if-dof-gt-MOST_DOF.false,
       ne_eqb _ _ c.if-frames-eq0.false,
       sym c.bad_lengths.ensures ∙ c.if-bad_lengths.false,
-      ap not (sym c.is_positive.ensures ∙ c.if-not-is_positive.false),
+      good,
       sym c.bad_actions.ensures ∙ c.if-bad_actions.true,
     )
 
