@@ -78,6 +78,7 @@ pub fn bad_beside(words: usize, shapes: usize, numbers: usize) -> bool
 }
 
 // Reason 14 of one word.
+#[tactic(auto, unfolding(crate::specs::Reasons::misfit))]
 pub fn misfit(s: Shape, dof: usize) -> bool
     ensures { result ≡ misfit dof s }
 {

@@ -1,4 +1,4 @@
--- Exact moments on a grid: however points are cut into sets and the sets are merged from the empty one, the moments are the floats of the whole_number count, sums and products.
+-- Exact moments on a grid: however points are cut into sets and the sets are merged from the empty one, the moments are the floats of the whole-number count, sums and products.
 -- So two plans of the same points have the same moments, and nothing is refused on the way. Assumes nothing.
 use Prim.Native.Nat.{ℕ, ◌*◌, ◌^◌, ◌≤◌, ◌<◌}
 use mathlib.Core.Path.{◌≡◌, refl, sym, ap, ◌∙◌}

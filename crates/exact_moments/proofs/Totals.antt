@@ -1,4 +1,4 @@
--- Totals over a list of whole_number points: of two lists together, in any order, and how large they get. Assumes nothing.
+-- Totals over a list of whole-number points: of two lists together, in any order, and how large they get. Assumes nothing.
 use Prim.Native.Nat.{ℕ, suc, ◌+◌, ◌-◌, ◌*◌, ◌≤◌}
 use mathlib.Core.Path.{◌≡◌, refl, sym, ap, ap₂, ◌∙◌}
 use mathlib.Core.Bool.{Bool, true, false, cond}

@@ -56,7 +56,7 @@ unfoldable pub total : (List ℤ → ℤ) → List (List ℤ) → ℤ
 total f [] = pos 0
 total f (q ∷ l) = f q +ℤ total f l
 
--- the floats of the whole_number count, sums and products; the float of 0 is +0
+-- the floats of the whole-number count, sums and products; the float of 0 is +0
 unfoldable pub exact : List (List ℤ) → PointMoments
 exact l = record {
   count = float_of (pos (length l));
@@ -64,7 +64,7 @@ exact l = record {
   outer = grid 3 3 (λ r c. float_of (total (product r c) l));
 }
 
--- m holds the whole_number count, sums and products, number by number and exactly
+-- m holds the whole-number count, sums and products, number by number and exactly
 pub record Exactly (m : PointMoments) (l : List (List ℤ)) : Type 0 where
   pub count : Whole m.count (pos (length l))
   pub sum : (r : ℕ) → r < 3 → Whole (m.sum ! r) (total (coordinate r) l)

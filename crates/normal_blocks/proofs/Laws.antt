@@ -46,14 +46,14 @@ bad_is w = go (ltb UNMAPPED w) refl
     go false e = sym (word_good w (ltb-false UNMAPPED w e))
 
 -- ---- the word at a place, inside the map and past its end
-get_d_any : (l : List ℕ) (k d e : ℕ) → k < length l → get_or l k d ≡ get_or l k e
-get_d_any [] k d e h = absurd (not-suc-le-zero h)
-get_d_any (x ∷ xs) zero d e h = refl
-get_d_any (x ∷ xs) (suc k) d e h = get_d_any xs k d e (le_of_suc-le-suc h)
+get_or_any : (l : List ℕ) (k d e : ℕ) → k < length l → get_or l k d ≡ get_or l k e
+get_or_any [] k d e h = absurd (not-suc-le-zero h)
+get_or_any (x ∷ xs) zero d e h = refl
+get_or_any (x ∷ xs) (suc k) d e h = get_or_any xs k d e (le_of_suc-le-suc h)
 
 pub word_inside : (m : List ℕ) (k : ℕ) → k < length m → get_or m k 0 ≡ word_at m (At k)
 unfolding word_at
-word_inside m k h = get_d_any m k 0 _ h
+word_inside m k h = get_or_any m k 0 _ h
 
 pub word_past : (m : List ℕ) (k : ℕ) → length m ≤ k → UNMAPPED ≡ word_at m (At k)
 unfolding word_at

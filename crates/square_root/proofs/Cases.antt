@@ -1,4 +1,4 @@
--- What `sqrt` and `many::settled` return is `squareRoot`, case by case. Assumes nothing.
+-- What `sqrt` and `many::settled` return is `square_root`, case by case. Assumes nothing.
 use Rattle.std.proofs.Common.{◌≡◌, ℕ, ◌*◌, ◌^◌, ◌<◌, true, T, sym, subst}
 use lib.Ieee.{Float, binary64, fits, of_bits, to_bits, ne}
 use lib.Ieee.Bits.{of_bits-to_bits}

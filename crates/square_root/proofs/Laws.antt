@@ -1,4 +1,4 @@
--- What callers may cite of `squareRoot`: it is IEEE 754's, it is fixed by that, and no tie can occur. Assumes nothing.
+-- What callers may cite of `square_root`: it is IEEE 754's, it is fixed by that, and no tie can occur. Assumes nothing.
 use Rattle.std.proofs.Common.{◌≡◌, T}
 use lib.Ieee.{Float, Format, binary64, fits}
 use lib.Ieee.Scale.{finite}

@@ -14,7 +14,7 @@ use Rattle.square_root.proofs.sqrt.Goals.{Start}
 held : (c : Start) → T (fits binary64 c.args.x)
 held c = subst T (sym c.well_formed.0.1) tt
 
--- what is IEEE 754's root of the argument is `squareRoot` of it
+-- what is IEEE 754's root of the argument is `square_root` of it
 only : (c : Start) {r : Float} → IsSquareRoot binary64 c.args.x r → r ≡ square_root c.args.x
 only c {r} p = square_root_only c.args.x r (held c) p
 
