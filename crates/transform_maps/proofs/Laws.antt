@@ -33,10 +33,10 @@ use Rattle.transform_maps.specs.Multiply.{Work, further_of, old_of, bad_slices, 
 
 -- ---- a slice that is empty or long enough, read element by element
 module _ {A : Type 0} where
-  pub get_d_any : (l : List A) (k : ℕ) (d e : A) → k < length l → get_or l k d ≡ get_or l k e
-  get_d_any [] k d e h = absurd (not-suc-le-zero h)
-  get_d_any (x ∷ xs) zero d e h = refl
-  get_d_any (x ∷ xs) (suc k) d e h = get_d_any xs k d e (le_of_suc-le-suc h)
+  pub get_or_any : (l : List A) (k : ℕ) (d e : A) → k < length l → get_or l k d ≡ get_or l k e
+  get_or_any [] k d e h = absurd (not-suc-le-zero h)
+  get_or_any (x ∷ xs) zero d e h = refl
+  get_or_any (x ∷ xs) (suc k) d e h = get_or_any xs k d e (le_of_suc-le-suc h)
 
   pub none_there : (l : List A) (i : ℕ) (x : A) → length l ≡ 0 → x ≡ get_or l i x
   none_there l i x e = sym (get_or-eq_default l x (omega arith))
@@ -60,7 +60,7 @@ module _ {A : Type 0} where
   pub else_at : (n i : ℕ) (d x : A) (l : List A) → (length l ≡ 0) ⊎ (length l ≡ n) → i < n → get_or l i x ≡ get_or (or_else n x l) i d
   unfolding or_else
   else_at n i d x [] e h = sym (get_or-replicate n i x d h)
-  else_at n i d x (y ∷ l) e h = ⊎_elim (λ z. absurd (omega arith)) (λ z. get_d_any (y ∷ l) i x d (omega arith)) e
+  else_at n i d x (y ∷ l) e h = ⊎_elim (λ z. absurd (omega arith)) (λ z. get_or_any (y ∷ l) i x d (omega arith)) e
 
   -- a loop that copies: one element more, and all of them
   pub front_more : (t l : List A) (k : ℕ) (v d : A) → length l ≡ length t → k < length t → v ≡ get_or t k d → take k l ≡ take k t → take (k + 1) (set l k v) ≡ take (k + 1) t

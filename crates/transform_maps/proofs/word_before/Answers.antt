@@ -4,7 +4,7 @@ use native.Mathlib.Omega.{arith}
 use mathlib.Core.Logic.{⊎_elim}
 use lib.ListN.{length}
 use Rattle.block_transforms.specs.Transform.{NO_TRANSFORM}
-use Rattle.transform_maps.proofs.Laws.{none_there, get_d_any}
+use Rattle.transform_maps.proofs.Laws.{none_there, get_or_any}
 use Rattle.transform_maps.proofs.word_before.Goals as goal
 use Rattle.transform_maps.proofs.word_before.Goals.{Else-shapes-eq0}
 
@@ -16,7 +16,7 @@ pub returns-then-shapes-eq0 : goal.returns-then-shapes-eq0
 returns-then-shapes-eq0 c = none_there c.args.shapes.now c.args.i NO_TRANSFORM c.if-shapes-eq0.true
 
 pub returns : goal.returns
-returns c = get_d_any c.args.shapes.now c.args.i 0 NO_TRANSFORM (within (goal.at.returns c).Else-shapes-eq0)
+returns c = get_or_any c.args.shapes.now c.args.i 0 NO_TRANSFORM (within (goal.at.returns c).Else-shapes-eq0)
 
 pub offset_bounds-shapes-i : goal.offset_bounds-shapes-i
 offset_bounds-shapes-i c = omega (arith, within c)
