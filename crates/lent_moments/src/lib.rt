@@ -2,33 +2,29 @@
 #![tactic(auto)]
 
 ghost use Rattle.refusals.specs.Refusal.{Answered};
+ghost use Rattle.refusals.specs.Number.{number};
 ghost use Rattle.point_moments.specs.Moments.{with_point, merged};
 ghost use Rattle.counted_moments.specs.Counted.{push_refusal, merge_refusal};
 
 use point_moments::PointMoments;
+use refusals::Refusal;
 
-pub fn push(m: &mut PointMoments, p: [f64; 3]) -> u32
-    ensures { Answered (push_refusal m.old p) result m.old m.new (with_point m.old p) }
+pub fn push(m: &mut PointMoments, p: [f64; 3]) -> Result<(), Refusal>
+    ensures { Answered (push_refusal m.old p) (number result) m.old m.new (with_point m.old p) }
 {
     let v = *m;
-    let refusal = counted_moments::push_refusal(v, p);
-    if refusal != 0 {
-        return refusal;
-    }
+    counted_moments::push_refusal(v, p)?;
     let w = v.with_point(p);
     *m = w;
-    0
+    Ok(())
 }
 
-pub fn merge(m: &mut PointMoments, other: PointMoments) -> u32
-    ensures { Answered (merge_refusal m.old other) result m.old m.new (merged m.old other) }
+pub fn merge(m: &mut PointMoments, other: PointMoments) -> Result<(), Refusal>
+    ensures { Answered (merge_refusal m.old other) (number result) m.old m.new (merged m.old other) }
 {
     let v = *m;
-    let refusal = counted_moments::merge_refusal(v, other);
-    if refusal != 0 {
-        return refusal;
-    }
+    counted_moments::merge_refusal(v, other)?;
     let w = v.merged(other);
     *m = w;
-    0
+    Ok(())
 }
