@@ -40,7 +40,8 @@ impl fmt::Display for Refusal {
         f.write_str(match self {
             Refusal::DofTooLarge => "the dof is above 9",
             Refusal::EmptyList => "a list of frames, of counts or of matches is empty",
-            Refusal::WrongLength => "a slice has not the length that its counts call for, or is above a limit",
+            Refusal::WrongLength =>
+                "a slice has not the length that its counts call for, or is above a limit",
             Refusal::EmptyFrame => "a frame has no points",
             Refusal::TooFewPoints => "there are fewer than three points",
             Refusal::NotFinite => "a moment or a coordinate is not finite",
