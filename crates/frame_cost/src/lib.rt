@@ -12,6 +12,7 @@ ghost use Rattle.plane_fit.specs.Fit.{and_fixed};
 ghost use Rattle.frame_cost.specs.Cost.{weight_of, pull_of, frame_along, fixed_cost, cost_at};
 
 use derivative::ACTION;
+use plane::Plane;
 use point_moments::scatter::{CENTRED, Centred};
 
 // 1 / (sigma·sigma)
@@ -41,12 +42,12 @@ fn set_pull(f: Centred, a: [f64; 3], along: f64, weight: f64) -> Pull
 }
 
 // Of a frame that the action x carries into the site.
-pub fn frame_pull(x: &[f64], f: Centred, normal: [f64; 3], offset: f64, weight: f64) -> Pull
+pub fn frame_pull(x: &[f64], f: Centred, plane: Plane, weight: f64) -> Pull
     requires { length x.now ≡ action_size }
-    ensures { result ≡ pull_of f (normal_in x.now normal) (frame_along x.now f normal offset) weight }
+    ensures { result ≡ pull_of f (normal_in x.now plane.normal) (frame_along x.now f plane.normal plane.offset) weight }
 {
-    let a = frame_normal::normal_in(x, normal);
-    let along = frame_normal::along(normal, offset, plane_fit::centre(x, f));
+    let a = frame_normal::normal_in(x, plane.normal);
+    let along = frame_normal::along(plane.normal, plane.offset, plane_fit::centre(x, f));
     set_pull(f, a, along, weight)
 }
 
@@ -59,18 +60,17 @@ fn fill_costs(
     actions: &[f64],
     from: usize,
     size: usize,
-    normal: [f64; 3],
-    offset: f64,
+    plane: Plane,
     weight: f64,
     costs: &mut [f64; 8],
 )
     requires { (CENTRED * (from + size) ≤ length frames.now) × (action_size * (from + size) ≤ length actions.now) × (size ≤ 8) × (length costs.old ≡ 8) }
-    ensures { (length costs.new ≡ 8) × First size costs.new (λ k. cost_at frames.now actions.now normal offset weight (from + k)) }
+    ensures { (length costs.new ≡ 8) × First size costs.new (λ k. cost_at frames.now actions.now plane.normal plane.offset weight (from + k)) }
 {
     for k in 0..size {
         let f = Centred::from_list(plane_fit::whole_at(frames, CENTRED, from + k));
         let x = plane_fit::whole_at(actions, ACTION, from + k);
-        let p = frame_pull(x, f, normal, offset, weight);
+        let p = frame_pull(x, f, plane, weight);
         costs[k] = p.cost;
     }
 }
@@ -88,25 +88,16 @@ fn with_costs(sum: f64, costs: &[f64; 8], size: usize) -> f64
 }
 
 // What the first `count` frames cost.
-pub fn frames_cost(
-    frames: &[f64],
-    actions: &[f64],
-    normal: [f64; 3],
-    offset: f64,
-    weight: f64,
-    count: usize,
-) -> f64
+pub fn frames_cost(frames: &[f64], actions: &[f64], plane: Plane, weight: f64, count: usize) -> f64
     requires { (CENTRED * count ≤ length frames.now) × (action_size * count ≤ length actions.now) }
-    ensures { result ≡ sum_from_zero count (cost_at frames.now actions.now normal offset weight) }
+    ensures { result ≡ sum_from_zero count (cost_at frames.now actions.now plane.normal plane.offset weight) }
 {
     let mut sum = 0.0;
     let mut costs = [0.0; 8];
     let mut from = 0;
     while from < count {
         let size = lists::batch_size(count, from, BATCH);
-        fill_costs(
-            frames, actions, from, size, normal, offset, weight, &mut costs,
-        );
+        fill_costs(frames, actions, from, size, plane, weight, &mut costs);
         sum = with_costs(sum, &costs, size);
         from = from + size;
     }
@@ -114,16 +105,16 @@ pub fn frames_cost(
 }
 
 // A sum of the frames' costs, with the cost of the fixed set if there is one.
-pub fn with_fixed(sum: f64, fixed: &[f64], normal: [f64; 3], offset: f64, weight: f64) -> f64
+pub fn with_fixed(sum: f64, fixed: &[f64], plane: Plane, weight: f64) -> f64
     requires { (length fixed.now ≡ 0) ⊎ (length fixed.now ≡ CENTRED) }
-    ensures { result ≡ and_fixed fixed.now (λ f. fixed_cost f normal offset weight) sum }
+    ensures { result ≡ and_fixed fixed.now (λ f. fixed_cost f plane.normal plane.offset weight) sum }
 {
     if fixed.len() == 0 {
         return sum;
     }
     let f = Centred::from_list(fixed);
     let mean = f.mean;
-    let along = frame_normal::along(normal, offset, mean);
-    let q = set_pull(f, normal, along, weight);
+    let along = frame_normal::along(plane.normal, plane.offset, mean);
+    let q = set_pull(f, plane.normal, along, weight);
     sum + q.cost
 }

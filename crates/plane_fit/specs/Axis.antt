@@ -1,23 +1,18 @@
 -- The fit's answer: the axis of least scatter with its offset, or no plane. Its definition, and the law of the maximum in its rule; assumes nothing.
-use Rattle.std.specs.Prelude.{◌≡◌, refl, true, false, cond, List, ℕ, Float}
+use Rattle.std.specs.Prelude.{◌≡◌, refl, true, false, cond, Option, Some, None, List, ℕ, Float}
 use Rattle.std.specs.Float.{nan, inf, fin, binary64}
 use Rattle.std.specs.Float.Ieee.{of_bits, sub, neg, lt}
 use Rattle.sums.specs.Sum.{◌⊗◌, dot}
-use Rattle.lists.specs.Part.{◌!◌}
 use Rattle.decomposition.specs.Axes.{rising_of}
 use Rattle.decomposition.specs.Gaps.{MIN_EIGEN_GAP, one, absolute, at_least_one, frames_plane}
 use Rattle.decomposition.specs.declared.Axes.{Axes}
-use Rattle.plane_fit.specs.declared.axis.Fit.{Fit}
-use Rattle.plane_fit.specs.declared.axis.Fit.TheVariants.{Plane, NoPlane}
+use Rattle.plane.specs.declared.Plane.{Plane}
 
 -- "With gap = second - first, it gives a plane exactly if gap > 1e-14 × max(|third|, 1)": the vector of the first eigenvalue, and -(Σ n_r·mean_r)
-unfoldable pub smallest_axis : List ℕ → List Float → Fit
+unfoldable pub smallest_axis : List ℕ → List Float → Option Plane
 smallest_axis d mean =
     let a = rising_of d in
-    let n = a.normal in
-    cond (frames_plane a)
-    (Plane (n ! 0) (n ! 1) (n ! 2) (neg (dot 3 n mean)))
-    NoPlane
+    cond (frames_plane a) (Some (record { normal = a.normal; offset = neg (dot 3 a.normal mean) })) None
 
 -- ---- the maximum by comparisons
 abbrev minus_one : Float
@@ -50,10 +45,10 @@ between (fin true m e) h k = rw k
 -- ---- the two answers, of a decomposition that was sorted and a bound and a sum that were worked out
 module _ (d : List ℕ) (mean : List Float) (a : Axes) (b : Float) (sorted : a ≡ rising_of d) (bound : b ≡ at_least_one a.third) where
   pub found : (along : Float) → along ≡ dot 3 a.normal mean → lt (MIN_EIGEN_GAP ⊗ b) (sub binary64 a.second a.first) ≡ true
-      → Plane (a.normal ! 0) (a.normal ! 1) (a.normal ! 2) (neg along) ≡ smallest_axis d mean
+      → Some (record { normal = a.normal; offset = neg along }) ≡ smallest_axis d mean
   unfolding smallest_axis frames_plane
   found along e h = let g = rw bound at h in rw (← sorted, e, g)
 
-  pub none : lt (MIN_EIGEN_GAP ⊗ b) (sub binary64 a.second a.first) ≡ false → NoPlane ≡ smallest_axis d mean
+  pub none : lt (MIN_EIGEN_GAP ⊗ b) (sub binary64 a.second a.first) ≡ false → None ≡ smallest_axis d mean
   unfolding smallest_axis frames_plane
   none h = let g = rw bound at h in rw (← sorted, g)

@@ -5,6 +5,7 @@ pub mod axis;
 
 ghost use Rattle.std.specs.Prelude.{◌≡◌, ℕ, ◌+◌, ◌*◌, ◌≤◌, ◌<◌, ◌++◌, length};
 ghost use Rattle.refusals.specs.Refusal.{Answered};
+ghost use Rattle.refusals.specs.Number.{number};
 ghost use Rattle.lists.specs.Part.{part};
 ghost use Rattle.sums.specs.Sum.{plus, grid, product, transpose};
 ghost use Rattle.derivative.specs.Action.{action_size};
@@ -17,6 +18,7 @@ ghost use Rattle.plane_fit.specs.Steps.{with_set, weighed, difference, spread_up
 
 use derivative::{ACTION, MOST_DOF};
 use point_moments::scatter::{CENTRED, Centred};
+use refusals::Refusal;
 
 // The most frames of one plane.
 pub const MOST_FRAMES: usize = 256;
@@ -323,30 +325,36 @@ fn told(mean: [f64; 3], s: Scatter) -> [f64; 12]
     ]
 }
 
-// The host's call: the fit's mean and scatter, for the decomposition that the host makes of it. The number of the reason to refuse, or 0.
-pub fn fit(dof: u32, frames: &[f64], fixed: &[f64], actions: &[f64], out: &mut [f64]) -> u32
-    ensures { Answered (fit_refusal dof frames.now fixed.now actions.now out.old) result out.old out.new (fit_list frames.now fixed.now actions.now) }
+// The host's call: the fit's mean and scatter, for the decomposition that the host makes of it.
+pub fn fit(
+    dof: u32,
+    frames: &[f64],
+    fixed: &[f64],
+    actions: &[f64],
+    out: &mut [f64],
+) -> Result<(), Refusal>
+    ensures { Answered (fit_refusal dof frames.now fixed.now actions.now out.old) (number result) out.old out.new (fit_list frames.now fixed.now actions.now) }
 {
     if dof > MOST_DOF {
-        return 1;
+        return Err(Refusal::DofTooLarge);
     }
     if frames.len() == 0 {
-        return 2;
+        return Err(Refusal::EmptyList);
     }
     if bad_frames(frames) {
-        return 3;
+        return Err(Refusal::WrongLength);
     }
     if bad_fixed(fixed) {
-        return 3;
+        return Err(Refusal::WrongLength);
     }
     if out.len() != 12 {
-        return 3;
+        return Err(Refusal::WrongLength);
     }
     if bad_actions(frames, actions) {
-        return 8;
+        return Err(Refusal::WrongActions);
     }
     let mean = fit_mean(frames, fixed, actions);
     let answer = told(mean, fit_scatter(frames, fixed, actions, mean));
     lists::store(out, &answer);
-    0
+    Ok(())
 }

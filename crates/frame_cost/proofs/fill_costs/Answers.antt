@@ -23,7 +23,7 @@ unfolding cost_at frame_cost
 loop-k-preserved c =
     let at = c.loop-k in
     let a = c.args in
-    let cost = cost_at a.frames.now a.actions.now a.normal a.offset a.weight (a.from + at.k) in
+    let cost = cost_at a.frames.now a.actions.now a.plane.normal a.plane.offset a.weight (a.from + at.k) in
     let stored : c.frame_pull-p.result.cost ≡ cost = rw (c.frame_pull-p.ensures, c.whole_at-x.ensures, c.from_list-f.ensures, c.whole_at.ensures) in
     (search rules, search rules, first_more at.costs _ at.k _ (omega (arith, c.requires.2)) stored at.invariant.2)
 

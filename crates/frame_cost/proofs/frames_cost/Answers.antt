@@ -31,7 +31,7 @@ loop-from-preserved c =
     let at = c.loop-from in
     let a = c.args in
     let size = c.batch_size-size.result in
-    let cost = cost_at a.frames.now a.actions.now a.normal a.offset a.weight in
+    let cost = cost_at a.frames.now a.actions.now a.plane.normal a.plane.offset a.weight in
     let batched : c.with_costs-sum.result ≡ sum_from at.sum size (λ k. cost (at.from + k)) = c.with_costs-sum.ensures ∙ sum_from-same at.sum size _ _ c.fill_costs.ensures.1 in (
       (batch_fits c.batch_size-size.ensures c.loop-from-test.true (omega arith)).2,
       c.fill_costs.ensures.0,
