@@ -5,30 +5,36 @@ ghost use Rattle.std.specs.Prelude.{◌≡◌, ◌+◌, ◌-◌, ◌≤◌, min,
 ghost use Rattle.sums.specs.Sum.{zero_f};
 ghost use Rattle.lists.specs.Part.{part};
 
+// N numbers of a list, from place `at` on.
+#[inline(always)]
+#[tactic(auto, using(crate::proofs::Ranges::range_part))]
+pub fn part<const N: usize>(l: &[f64], at: usize) -> [f64; N]
+    requires { at + N ≤ length l.now }
+    ensures { result ≡ part N l.now at }
+{
+    let mut numbers = [0.0; N];
+    numbers.copy_from_slice(&l[at..at + N]);
+    numbers
+}
+
+#[inline(always)]
 pub fn three(l: &[f64], at: usize) -> [f64; 3]
     requires { at + 3 ≤ length l.now }
     ensures { result ≡ part 3 l.now at }
 {
-    [l[at], l[at + 1], l[at + 2]]
+    part(l, at)
 }
 
+#[inline(always)]
 pub fn nine(l: &[f64], at: usize) -> [f64; 9]
     requires { at + 9 ≤ length l.now }
     ensures { result ≡ part 9 l.now at }
 {
-    [
-        l[at],
-        l[at + 1],
-        l[at + 2],
-        l[at + 3],
-        l[at + 4],
-        l[at + 5],
-        l[at + 6],
-        l[at + 7],
-        l[at + 8],
-    ]
+    part(l, at)
 }
 
+// Of two arrays one, of lengths that are written out: a function for any lengths would take that of the result as a third parameter, with
+// a clause that it is the sum of the other two, and each call would have to name all three.
 pub fn three_and_nine(a: [f64; 3], b: [f64; 9]) -> [f64; 12]
     ensures { result ≡ part 3 a 0 ++ part 9 b 0 }
 {
@@ -50,22 +56,14 @@ pub fn store(to: &mut [f64], from: &[f64])
     requires { length to.old ≡ length from.now }
     ensures { to.new ≡ from.now }
 {
-    let mut k = 0;
-    while k < from.len() {
-        to[k] = from[k];
-        k += 1;
-    }
+    to.copy_from_slice(from);
 }
 
 // +0 everywhere.
 pub fn clear(out: &mut [f64])
     ensures { out.new ≡ replicate (length out.old) zero_f }
 {
-    let mut k = 0;
-    while k < out.len() {
-        out[k] = 0.0;
-        k += 1;
-    }
+    out.fill(0.0);
 }
 
 // How many of `count` things are in a batch of at most `most` that starts at number `from`.
@@ -73,6 +71,5 @@ pub fn batch_size(count: usize, from: usize, most: usize) -> usize
     requires { from ≤ count }
     ensures { result ≡ min (count - from) most }
 {
-    let left = count - from;
-    if left < most { left } else { most }
+    (count - from).min(most)
 }
