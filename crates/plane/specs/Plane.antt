@@ -1,15 +1,15 @@
 -- A plane n·x + d = 0, and when a normal makes one. Definitions only.
-use Rattle.std.specs.Prelude.{ℕ, zero, suc, not, List, [], ◌∷◌, ◌++◌, Float}
+use Rattle.std.specs.Prelude.{ℕ, not, cond, List, [], ◌∷◌, ◌++◌, Float, Result, Ok, Err}
 use Rattle.std.specs.Float.{binary64}
 use Rattle.std.specs.Float.Ieee.{of_bits, div}
 use Rattle.sums.specs.Sum.{dot, divided}
 use Rattle.lists.specs.Part.{◌!◌, part}
-use Rattle.refusals.specs.Refusal.{Reason, ◌when◌, first_of}
+use Rattle.refusals.specs.Refusal.{Reason, ◌when◌}
+use Rattle.refusals.specs.declared.Refusal.{Refusal}
+use Rattle.refusals.specs.declared.Refusal.TheVariants.{DegenerateNormal}
 use Rattle.square_root.specs.Computed.{square_root}
 use Rattle.validate.specs.Finite.{finite_above}
 use Rattle.plane.specs.declared.Plane.{Plane}
-use Rattle.plane.specs.declared.PlaneAnswer.{PlaneAnswer}
-use Rattle.plane.specs.declared.PlaneAnswer.TheVariants.{Refused, Made}
 
 -- how many numbers a plane is as a list
 abbrev pub PLANE : ℕ
@@ -38,11 +38,6 @@ normal_reasons n = 11 when not (finite_above least_norm (norm n)) ∷ []
 abbrev pub unit_plane : List Float → Float → Plane
 unit_plane n d = record { normal = divided 3 n (norm n); offset = div binary64 d (norm n) }
 
--- the answer of a refusal's number, and of a plane where that is 0
-abbrev pub answer : ℕ → Plane → PlaneAnswer
-answer zero p = Made (p.normal ! 0) (p.normal ! 1) (p.normal ! 2) p.offset
-answer (suc k) p = Refused (suc k)
-
--- the plane of a normal of any length
-unfoldable pub plane_new : List Float → Float → PlaneAnswer
-plane_new n d = answer (first_of (normal_reasons n)) (unit_plane n d)
+-- the plane of a normal of any length, or reason 11
+unfoldable pub plane_new : List Float → Float → Result Plane Refusal
+plane_new n d = cond (finite_above least_norm (norm n)) (Ok (unit_plane n d)) (Err DegenerateNormal)

@@ -1,16 +1,16 @@
 -- The standard deviation of a point's distance from a plane: the root of nᵀ·A·P·Aᵀ·n + j·C·jᵀ, from the left, one sum a line. Definitions only.
 -- n is the plane's normal and o its centroid, C the covariance of the two; w is the point in the world, P its covariance as it was scanned,
 -- and A takes a displacement of the scanned point to the world.
-use Rattle.std.specs.Prelude.{ℕ, zero, suc, not, List, [], ◌∷◌, ◌++◌, Float}
+use Rattle.std.specs.Prelude.{not, cond, List, [], ◌∷◌, ◌++◌, Float, Result, Ok, Err}
 use Rattle.std.specs.Float.{binary64}
 use Rattle.std.specs.Float.Ieee.{sub, neg}
 use Rattle.sums.specs.Sum.{◌⊕◌, ◌⊗◌, sum_to, tab, at}
 use Rattle.lists.specs.Part.{◌!◌}
-use Rattle.refusals.specs.Refusal.{Reason, ◌when◌, first_of}
+use Rattle.refusals.specs.Refusal.{Reason, ◌when◌}
+use Rattle.refusals.specs.declared.Refusal.{Refusal}
+use Rattle.refusals.specs.declared.Refusal.TheVariants.{BadVariance}
 use Rattle.square_root.specs.Computed.{square_root}
 use Rattle.validate.specs.Finite.{finite_positive}
-use Rattle.plane.specs.declared.Sigma.{Sigma}
-use Rattle.plane.specs.declared.Sigma.TheVariants.{Refused, Value}
 
 -- t_c = Σ_r n_r·A(r,c)
 abbrev pub t : List Float → List Float → List Float
@@ -48,11 +48,6 @@ variance n o c p w a = point_term n a p ⊕ plane_term (jacobian w o n) c
 abbrev pub variance_reasons : Float → List Reason
 variance_reasons x = 12 when not (finite_positive x) ∷ []
 
--- the answer of a refusal's number, and of a value where that is 0
-abbrev pub answer : ℕ → Float → Sigma
-answer zero x = Value x
-answer (suc k) x = Refused (suc k)
-
--- the square root of a variance that is not refused
-unfoldable pub deviation : Float → Sigma
-deviation x = answer (first_of (variance_reasons x)) (square_root x)
+-- the square root of a variance, or reason 12
+unfoldable pub deviation : Float → Result Float Refusal
+deviation x = cond (finite_positive x) (Ok (square_root x)) (Err BadVariance)

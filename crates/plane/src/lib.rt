@@ -7,25 +7,13 @@ ghost use Rattle.lists.specs.Part.{◌!◌};
 ghost use Rattle.plane.specs.Plane.{PLANE, plane_of, plane_new};
 ghost use Rattle.plane.specs.Sigma.{jacobian, point_term, plane_term, variance, deviation};
 
+use refusals::Refusal;
+
 // The points x with normal·x + offset = 0.
 #[derive(Clone, Copy)]
 pub struct Plane {
     pub normal: [f64; 3],
     pub offset: f64,
-}
-
-// The normal and the offset of a plane, or the number of the reason to refuse it.
-#[derive(Clone, Copy)]
-pub enum PlaneAnswer {
-    Refused(u32),
-    Made(f64, f64, f64, f64),
-}
-
-// The standard deviation of a point's distance from a plane, or the number of the reason to refuse it.
-#[derive(Clone, Copy)]
-pub enum Sigma {
-    Refused(u32),
-    Value(f64),
 }
 
 // How many numbers a plane is as a list.
@@ -48,15 +36,17 @@ impl Plane {
     }
 
     // The plane of a normal of any length: normal and offset are divided by it.
-    pub fn new(normal: [f64; 3], offset: f64) -> PlaneAnswer
+    pub fn new(normal: [f64; 3], offset: f64) -> Result<Plane, Refusal>
         ensures { result ≡ plane_new normal offset }
     {
         let norm = square_root::sqrt(linear::dot3(normal, normal));
         if !validate::is_above(norm, LEAST_NORM) {
-            return PlaneAnswer::Refused(11);
+            return Err(Refusal::DegenerateNormal);
         }
-        let n = linear::divided3(normal, norm);
-        PlaneAnswer::Made(n[0], n[1], n[2], offset / norm)
+        Ok(Plane {
+            normal: linear::divided3(normal, norm),
+            offset: offset / norm,
+        })
     }
 }
 
@@ -107,13 +97,13 @@ fn plane_term(j: [f64; 6], c: &[f64]) -> f64
 }
 
 // The square root of a variance, which has to be finite and positive.
-fn deviation(x: f64) -> Sigma
+fn deviation(x: f64) -> Result<f64, Refusal>
     ensures { result ≡ deviation x }
 {
     if !validate::is_positive(x) {
-        return Sigma::Refused(12);
+        return Err(Refusal::BadVariance);
     }
-    Sigma::Value(square_root::sqrt(x))
+    Ok(square_root::sqrt(x))
 }
 
 // `plane_covariance` is that of the plane's normal and centroid together; `d_world_d_point` takes a displacement of the scanned point,
@@ -125,7 +115,7 @@ pub fn point_to_plane_sigma(
     point_covariance: [f64; 9],
     world: [f64; 3],
     d_world_d_point: [f64; 9],
-) -> Sigma
+) -> Result<f64, Refusal>
     requires { length plane_covariance.now ≡ 36 }
     ensures { result ≡ deviation (variance plane.normal centroid plane_covariance.now point_covariance world d_world_d_point) }
 {
