@@ -1,12 +1,11 @@
 -- The mean of a set of points, the scatter about it, and the centred frame, entry by entry. Definitions only.
-use Rattle.std.specs.Prelude.{ℕ, Bool, not, cond, List, ◌∷◌, ◌++◌, Float}
+use Rattle.std.specs.Prelude.{ℕ, Bool, not, cond, List, ◌∷◌, ◌++◌, Option, Some, None, Float}
 use Rattle.std.specs.Float.Ieee.{le}
 use Rattle.sums.specs.Sum.{zero_f, scaled, divided}
 use Rattle.moment_matrices.specs.Matrices.{scatter_of}
 use Rattle.lists.specs.Part.{◌!◌, part}
 use Rattle.point_moments.specs.declared.PointMoments.{PointMoments}
 use Rattle.point_moments.specs.declared.scatter.MeanAndScatter.{MeanAndScatter}
-use Rattle.point_moments.specs.declared.scatter.MeanAndScatter.TheVariants.{Found, NoMean}
 use Rattle.point_moments.specs.declared.scatter.Centred.{Centred}
 
 -- sum_r / count
@@ -22,11 +21,11 @@ has_mean m = not (le m.count zero_f)
 
 -- the mean u and the scatter s about it
 abbrev pub mean_by : List Float → List Float → MeanAndScatter
-mean_by u s = Found (u ! 0) (u ! 1) (u ! 2) (s ! 0) (s ! 1) (s ! 2) (s ! 3) (s ! 4) (s ! 5) (s ! 6) (s ! 7) (s ! 8)
+mean_by u s = record { mean = u; scatter = s }
 
 -- none without a mean
-unfoldable pub mean_and_scatter : PointMoments → MeanAndScatter
-mean_and_scatter m = cond (has_mean m) (mean_by (mean m) (scatter m)) NoMean
+unfoldable pub mean_and_scatter : PointMoments → Option MeanAndScatter
+mean_and_scatter m = cond (has_mean m) (Some (mean_by (mean m) (scatter m))) None
 
 -- of a set that has a mean: the same, with the scatter times the count
 unfoldable pub centred : PointMoments → Centred

@@ -6,11 +6,13 @@ pub mod scatter;
 
 ghost use Rattle.std.specs.Prelude.{◌≡◌, ◌/◌, ◌≤◌, length, pos};
 ghost use Rattle.refusals.specs.Refusal.{first_of};
+ghost use Rattle.refusals.specs.Number.{number};
 ghost use Rattle.counts.specs.Whole.{float_of};
 ghost use Rattle.point_moments.specs.Steps.{of_sums};
 ghost use Rattle.point_moments.specs.Moments.{MOMENTS, MOST_POINTS, moments_of, moments_list, empty, with_point, merged, transformed, of_points, point_reasons};
 
 use point_sums::Sums;
+use refusals::Refusal;
 
 // The outer products are by columns.
 #[derive(Clone, Copy)]
@@ -124,17 +126,17 @@ impl PointMoments {
     }
 }
 
-// The number of the reason to refuse a list of points, or 0: it is whole points, and at most MOST_POINTS.
-pub fn points_refusal(points: &[f64]) -> u32
-    ensures { result ≡ first_of (point_reasons points.now) }
+// Whether a list of points is taken: it is whole points, and at most MOST_POINTS.
+pub fn points_refusal(points: &[f64]) -> Result<(), Refusal>
+    ensures { number result ≡ first_of (point_reasons points.now) }
 {
     if points.len() % 3 != 0 {
-        return 3;
+        return Err(Refusal::WrongLength);
     }
     if points.len() / 3 > MOST_POINTS {
-        return 3;
+        return Err(Refusal::WrongLength);
     }
-    0
+    Ok(())
 }
 
 // Of n points that have these sums.

@@ -6,30 +6,35 @@ ghost use Rattle.point_moments.specs.Plane.{plane_of};
 use crate::PointMoments;
 use decomposition::MIN_EIGEN_GAP;
 
+// The points x of the plane have normal·x + offset = 0; the eigenvalues are in rising order.
 #[derive(Clone, Copy)]
-pub enum MomentsPlane {
-    // Normal, offset, and the eigenvalues in rising order.
-    Found(f64, f64, f64, f64, f64, f64, f64),
-    NoPlane,
+pub struct MomentsPlane {
+    pub normal: [f64; 3],
+    pub offset: f64,
+    pub eigenvalues: [f64; 3],
 }
 
 impl PointMoments {
     // None for fewer than three points or no unique normal. A count that is not below 3 has a mean: `has_mean` of the proofs.
-    pub fn plane(self, decomposition: &[u64]) -> MomentsPlane
+    pub fn plane(self, decomposition: &[u64]) -> Option<MomentsPlane>
         requires { length decomposition.now ≡ DECOMPOSITION }
         ensures { result ≡ plane_of self decomposition.now }
     {
         let count = self.count;
         if count < 3.0 {
-            return MomentsPlane::NoPlane;
+            return None;
         }
         let d = decomposition::rising(decomposition);
         if d.second - d.first < MIN_EIGEN_GAP {
-            return MomentsPlane::NoPlane;
+            return None;
         }
         let s = self.sum;
-        let n = d.normal;
-        let offset = -linear::dot3(n, linear::divided3(s, count));
-        MomentsPlane::Found(n[0], n[1], n[2], offset, d.first, d.second, d.third)
+        let normal = d.normal;
+        let offset = -linear::dot3(normal, linear::divided3(s, count));
+        Some(MomentsPlane {
+            normal,
+            offset,
+            eigenvalues: [d.first, d.second, d.third],
+        })
     }
 }

@@ -4,11 +4,11 @@ ghost use Rattle.point_moments.specs.Scatter.{CENTRED, has_mean, mean_and_scatte
 
 use crate::PointMoments;
 
+// The scatter is by columns.
 #[derive(Clone, Copy)]
-pub enum MeanAndScatter {
-    // The mean, then the scatter by columns.
-    Found(f64, f64, f64, f64, f64, f64, f64, f64, f64, f64, f64, f64),
-    NoMean,
+pub struct MeanAndScatter {
+    pub mean: [f64; 3],
+    pub scatter: [f64; 9],
 }
 
 // How many numbers a centred frame is.
@@ -23,20 +23,19 @@ pub struct Centred {
 }
 
 impl PointMoments {
-    pub fn mean_and_scatter(self) -> MeanAndScatter
+    // None where the count is at or below 0.
+    pub fn mean_and_scatter(self) -> Option<MeanAndScatter>
         ensures { result ≡ mean_and_scatter self }
     {
         let n = self.count;
         if n <= 0.0 {
-            return MeanAndScatter::NoMean;
+            return None;
         }
         let sum = self.sum;
         let o = self.outer;
-        let u = linear::divided3(sum, n);
-        let s = moment_matrices::scatter_of(o, u, n);
-        MeanAndScatter::Found(
-            u[0], u[1], u[2], s[0], s[1], s[2], s[3], s[4], s[5], s[6], s[7], s[8],
-        )
+        let mean = linear::divided3(sum, n);
+        let scatter = moment_matrices::scatter_of(o, mean, n);
+        Some(MeanAndScatter { mean, scatter })
     }
 
     // The set as a frame of the factor takes it. Only of a set that has a mean: a build tests that before.
