@@ -1,5 +1,5 @@
 -- The calls of a host on moments as lists: why each is refused, and what it leaves where it is not. Definitions only.
-use Rattle.std.specs.Prelude.{ℕ, ◌/◌, List, [], ◌∷◌, ◌++◌, length, Float}
+use Rattle.std.specs.Prelude.{ℕ, ◌/◌, List, [], ◌∷◌, ◌++◌, Option, Some, None, length, Float}
 use Rattle.refusals.specs.Refusal.{◌when◌, first_of, wrong_length, Answered}
 use Rattle.lists.specs.Part.{part}
 use Rattle.point_moments.specs.Moments.{MOMENTS, moments_of, moments_list, point_reasons, of_points, with_point, merged, transformed}
@@ -8,9 +8,7 @@ use Rattle.point_moments.specs.Plane.{plane_of}
 use Rattle.counted_moments.specs.Counted.{push_reasons, merge_reasons, pushes_reasons}
 use Rattle.decomposition.specs.Axes.{DECOMPOSITION}
 use Rattle.point_moments.specs.declared.plane.MomentsPlane.{MomentsPlane}
-use Rattle.point_moments.specs.declared.plane.MomentsPlane.TheVariants.{Found, NoPlane}
 use Rattle.point_moments.specs.declared.scatter.MeanAndScatter.{MeanAndScatter}
-use Rattle.point_moments.specs.declared.scatter.MeanAndScatter.TheVariants as mean
 
 -- Of each call: the number of the reason to refuse it, what it gives, and what a call with the answer r leaves.
 
@@ -62,9 +60,9 @@ Transforms m a b out r out' = Answered (move_refusal m a b out) r out out' (move
 unfoldable pub mean_refusal : List Float → List Float → ℕ
 mean_refusal m out = first_of (3 when wrong_length ((length m, MOMENTS) ∷ (length out, 12) ∷ []) ∷ [])
 
-unfoldable pub mean_answer : MeanAndScatter → List Float → List Float × ℕ
-mean_answer (mean.Found x y z xx yx zx xy yy zy xz yz zz) out = (x ∷ y ∷ z ∷ xx ∷ yx ∷ zx ∷ xy ∷ yy ∷ zy ∷ xz ∷ yz ∷ zz ∷ [], 1)
-mean_answer mean.NoMean out = (out, 0)
+unfoldable pub mean_answer : Option MeanAndScatter → List Float → List Float × ℕ
+mean_answer (Some f) out = (part 3 f.mean 0 ++ part 9 f.scatter 0, 1)
+mean_answer None out = (out, 0)
 
 abbrev pub FindsMean : List Float → List Float → ℕ → ℕ → List Float → ℕ → Type 0
 FindsMean m out found r out' found' =
@@ -75,9 +73,9 @@ unfoldable pub plane_refusal : List Float → List ℕ → List Float → ℕ
 plane_refusal m d out =
     first_of (3 when wrong_length ((length m, MOMENTS) ∷ (length d, DECOMPOSITION) ∷ (length out, 7) ∷ []) ∷ [])
 
-unfoldable pub plane_answer : MomentsPlane → List Float → List Float × ℕ
-plane_answer (Found x y z offset first second third) out = (x ∷ y ∷ z ∷ offset ∷ first ∷ second ∷ third ∷ [], 1)
-plane_answer NoPlane out = (out, 0)
+unfoldable pub plane_answer : Option MomentsPlane → List Float → List Float × ℕ
+plane_answer (Some p) out = (part 3 p.normal 0 ++ (p.offset ∷ part 3 p.eigenvalues 0), 1)
+plane_answer None out = (out, 0)
 
 abbrev pub FindsPlane : List Float → List ℕ → List Float → ℕ → ℕ → List Float → ℕ → Type 0
 FindsPlane m d out found r out' found' =

@@ -12,15 +12,15 @@ pub returns-then-out-ne12 : goal.returns-then-out-ne12
 unfolding mean_refusal
 returns-then-out-ne12 c = refused (rw (eq-eqb _ _ c.if-moments-ne-MOMENTS.false, ne_eqb _ _ c.if-out-ne12.true))
 
-pub returns-in-Found : goal.returns-in-Found
+pub returns-in-Some : goal.returns-in-Some
 unfolding mean_refusal mean_answer
-returns-in-Found c =
-    let is = rw c.from_list.ensures at c.mean_and_scatter-answer.ensures in
+returns-in-Some c =
+    let is = rw c.from_list.ensures at c.mean_and_scatter.ensures in
     accepted (rw (eq-eqb _ _ c.if-moments-ne-MOMENTS.false, eq-eqb _ _ c.if-out-ne12.false))
-    (rw (← is, c.in-Found.is, c.store.ensures))
+    (rw (← is, c.in-Some.is, c.store.ensures, c.three_and_nine.ensures))
 
-pub returns-in-NoMean : goal.returns-in-NoMean
+pub returns-in-None : goal.returns-in-None
 unfolding mean_refusal mean_answer
-returns-in-NoMean c =
-    let is = rw c.from_list.ensures at c.mean_and_scatter-answer.ensures in
-    accepted (rw (eq-eqb _ _ c.if-moments-ne-MOMENTS.false, eq-eqb _ _ c.if-out-ne12.false)) (rw (← is, c.in-NoMean.is))
+returns-in-None c =
+    let is = rw c.from_list.ensures at c.mean_and_scatter.ensures in
+    accepted (rw (eq-eqb _ _ c.if-moments-ne-MOMENTS.false, eq-eqb _ _ c.if-out-ne12.false)) (rw (← is, c.in-None.is))

@@ -17,16 +17,16 @@ unfolding plane_refusal
 returns-then-out-ne7 c =
     refused (rw (eq-eqb _ _ c.if-moments-ne-MOMENTS.false, eq-eqb _ _ c.if-decomposition-ne-DECOMPOSITION.false, ne_eqb _ _ c.if-out-ne7.true))
 
-pub returns-in-Found : goal.returns-in-Found
+pub returns-in-Some : goal.returns-in-Some
 unfolding plane_refusal plane_answer
-returns-in-Found c =
-    let is = rw c.from_list.ensures at c.plane-answer.ensures in
+returns-in-Some c =
+    let is = rw c.from_list.ensures at c.plane.ensures in
     accepted (rw (eq-eqb _ _ c.if-moments-ne-MOMENTS.false, eq-eqb _ _ c.if-decomposition-ne-DECOMPOSITION.false, eq-eqb _ _ c.if-out-ne7.false))
-    (rw (← is, c.in-Found.is, c.store.ensures))
+    (rw (← is, c.in-Some.is, c.store.ensures))
 
-pub returns-in-NoPlane : goal.returns-in-NoPlane
+pub returns-in-None : goal.returns-in-None
 unfolding plane_refusal plane_answer
-returns-in-NoPlane c =
-    let is = rw c.from_list.ensures at c.plane-answer.ensures in
+returns-in-None c =
+    let is = rw c.from_list.ensures at c.plane.ensures in
     accepted (rw (eq-eqb _ _ c.if-moments-ne-MOMENTS.false, eq-eqb _ _ c.if-decomposition-ne-DECOMPOSITION.false, eq-eqb _ _ c.if-out-ne7.false))
-    (rw (← is, c.in-NoPlane.is))
+    (rw (← is, c.in-None.is))
