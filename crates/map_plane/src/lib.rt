@@ -3,12 +3,14 @@
 
 ghost use Rattle.std.specs.Prelude.{◌≡◌, ◌+◌, ◌*◌, ◌≤◌, length};
 ghost use Rattle.refusals.specs.Refusal.{first_of};
+ghost use Rattle.refusals.specs.Number.{number};
 ghost use Rattle.sums.specs.Fill.{First, written};
 ghost use Rattle.lists.specs.Part.{part};
 ghost use Rattle.map_plane.specs.Match.{MATCH, match_reasons};
 ghost use Rattle.map_plane.specs.Linearize.{EXTRINSIC, residual, projected, state_column, whole_row, bad_lengths, bad_row, Linearized};
 
 use derivative::MOST_DOF;
+use refusals::Refusal;
 
 // How many numbers a match is: the point, the plane's normal and offset, sigma.
 pub const MATCH: usize = 8;
@@ -16,24 +18,24 @@ pub const MATCH: usize = 8;
 // The columns of the extrinsic Jacobian.
 const EXTRINSIC: usize = 6;
 
-// Why the match at a place of a list is turned away, or 0. One early return a test: tests joined into one bool compile to slower code.
-pub fn match_refusal(list: &[f64], at: usize) -> u32
+// Whether the match at a place of a list is turned away. One early return a test: tests joined into one bool compile to slower code.
+pub fn match_refusal(list: &[f64], at: usize) -> Result<(), Refusal>
     requires { at + MATCH ≤ length list.now }
-    ensures { result ≡ first_of (match_reasons (part MATCH list.now at)) }
+    ensures { number result ≡ first_of (match_reasons (part MATCH list.now at)) }
 {
     if !validate::is_finite(list[at]) {
-        return 6;
+        return Err(Refusal::NotFinite);
     }
     if !validate::is_finite(list[at + 1]) {
-        return 6;
+        return Err(Refusal::NotFinite);
     }
     if !validate::is_finite(list[at + 2]) {
-        return 6;
+        return Err(Refusal::NotFinite);
     }
     if !validate::is_positive(list[at + 7]) {
-        return 7;
+        return Err(Refusal::BadSigma);
     }
-    0
+    Ok(())
 }
 
 // nᵀ times column c of a matrix of three rows.
@@ -131,7 +133,7 @@ fn bad_row(width: usize, cells: usize) -> bool
     cells != width + EXTRINSIC
 }
 
-// The host's call: the residual, and the row unless it is empty, which means not wanted. The number of the reason to refuse, or 0.
+// The host's call: the residual, and the row unless it is empty, which means not wanted. Nothing is written where it is refused.
 pub fn linearize(
     dof: u32,
     matched: &[f64],
@@ -140,14 +142,14 @@ pub fn linearize(
     d_extrinsic: &[f64],
     residual: &mut f64,
     row: &mut [f64],
-) -> u32
-    ensures { Linearized (record { dof = dof; matched = matched.now; world = world.now; d_state = d_state.now; d_extrinsic = d_extrinsic.now }) result residual.old row.old residual.new row.new }
+) -> Result<(), Refusal>
+    ensures { Linearized (record { dof = dof; matched = matched.now; world = world.now; d_state = d_state.now; d_extrinsic = d_extrinsic.now }) (number result) residual.old row.old residual.new row.new }
 {
     if dof > MOST_DOF {
-        return 1;
+        return Err(Refusal::DofTooLarge);
     }
     if matched.len() == 0 {
-        return 2;
+        return Err(Refusal::EmptyList);
     }
     let width = dof as usize;
     if bad_inputs(
@@ -157,19 +159,16 @@ pub fn linearize(
         d_state.len(),
         d_extrinsic.len(),
     ) {
-        return 3;
+        return Err(Refusal::WrongLength);
     }
     if bad_row(width, row.len()) {
-        return 3;
+        return Err(Refusal::WrongLength);
     }
-    let why = match_refusal(matched, 0);
-    if why != 0 {
-        return why;
-    }
+    match_refusal(matched, 0)?;
     *residual = whitened(matched, world);
     if row.len() == 0 {
-        return 0;
+        return Ok(());
     }
     write_row(width, matched, d_state, d_extrinsic, row);
-    0
+    Ok(())
 }

@@ -3,6 +3,7 @@ use mathlib.Core.Path.{sym, ◌∙◌}
 use native.Mathlib.Nat.{le_of_eq}
 use native.Mathlib.Omega.{arith}
 use borrow.Author.Tests.{lt-ltb, le-ltb, eq-eqb, ne_eqb}
+use borrow.Author.Rules.{rules}
 use Rattle.refusals.specs.Refusal.{refused, refused_by, accepted}
 use Rattle.map_plane.specs.Linearize.{linearize_refusal, row_left, good_lengths, row-wanted, own_match}
 use Rattle.map_plane.proofs.linearize.Goals as goal
@@ -31,13 +32,14 @@ returns-then-bad_row c =
       sym c.bad_row.ensures ∙ c.if-bad_row.true,
     ))
 
-pub match_refusal-why-requires : goal.match_refusal-why-requires
-match_refusal-why-requires c =
+pub match_refusal-requires : goal.match_refusal-requires
+match_refusal-requires c =
     omega (arith, (good_lengths _ _ _ _ _ (sym c.bad_inputs.ensures ∙ c.if-bad_inputs.false)).0)
 
-pub returns-then-why-ne0 : goal.returns-then-why-ne0
+pub returns-in_err-match_refusal : goal.returns-in_err-match_refusal
 unfolding linearize_refusal
-returns-then-why-ne0 c =
+returns-in_err-match_refusal c =
+    let e = own_match c.args.matched.now in
     refused_by
     (rw (
       le-ltb _ _ c.if-dof-gt-MOST_DOF.false,
@@ -45,8 +47,8 @@ returns-then-why-ne0 c =
       sym c.bad_inputs.ensures ∙ c.if-bad_inputs.false,
       sym c.bad_row.ensures ∙ c.if-bad_row.false,
     )
-    (sym (c.match_refusal-why.ensures ∙ own_match _)))
-    c.if-why-ne0.true
+    (search rules))
+    (search rules)
 
 pub whitened-requires : goal.whitened-requires
 whitened-requires c =
@@ -63,7 +65,7 @@ returns-then-row-eq0 c =
       sym c.bad_inputs.ensures ∙ c.if-bad_inputs.false,
       sym c.bad_row.ensures ∙ c.if-bad_row.false,
     )
-    (sym (c.match_refusal-why.ensures ∙ own_match _) ∙ c.if-why-ne0.false))
+    (sym (c.in_ok-match_refusal.ensures ∙ own_match _)))
     (rw (c.whitened.ensures, eq-eqb _ _ c.if-row-eq0.true))
 
 pub write_row-requires : goal.write_row-requires
@@ -81,5 +83,5 @@ returns c =
       sym c.bad_inputs.ensures ∙ c.if-bad_inputs.false,
       sym c.bad_row.ensures ∙ c.if-bad_row.false,
     )
-    (sym (c.match_refusal-why.ensures ∙ own_match _) ∙ c.if-why-ne0.false))
+    (sym (c.in_ok-match_refusal.ensures ∙ own_match _)))
     (rw (c.whitened.ensures, c.write_row.ensures, ne_eqb _ _ c.if-row-eq0.false))

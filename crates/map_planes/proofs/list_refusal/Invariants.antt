@@ -1,4 +1,3 @@
-use Prim.Native.Nat.{◌≤◌, ◌-◌}
 use mathlib.Core.Path.{◌≡◌}
 use Rattle.refusals.specs.Refusal.{first_of}
 use Rattle.terms.specs.Terms.{upto}
@@ -6,7 +5,4 @@ use Rattle.map_planes.specs.Calls.{reasons_at}
 use Rattle.map_planes.proofs.list_refusal.Given as goal
 
 abbrev pub invariant-loop-k : goal.invariant-loop-k
-invariant-loop-k l = (l.k ≤ l.n) × (first_of (upto l.k (reasons_at l.list)) ≡ 0)
-
-abbrev pub decreases-loop-k : goal.decreases-loop-k
-decreases-loop-k l = l.n - l.k
+invariant-loop-k l = first_of (upto l.k (reasons_at l.list)) ≡ 0

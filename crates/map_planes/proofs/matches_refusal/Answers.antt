@@ -1,8 +1,11 @@
 -- `map_planes::matches_refusal` meets its contract: the tests in their order. Assumes nothing.
-use mathlib.Core.Path.{sym, ◌∙◌}
+use mathlib.Core.Path.{◌≡◌, sym, ◌∙◌}
 use borrow.Author.Tests.{lt-ltb, le-ltb, eq-eqb, ne_eqb}
+use borrow.Author.Rules.{rules}
+use Rattle.refusals.specs.Number.{number}
+use Rattle.refusals.specs.Refusal.{first_of}
 use Rattle.map_planes.specs.Reasons.{or_else-some}
-use Rattle.map_planes.specs.Calls.{matches_refusal, list-first}
+use Rattle.map_planes.specs.Calls.{list_reasons, matches_refusal, list-first}
 use Rattle.map_planes.proofs.matches_refusal.Goals as goal
 
 pub returns-then-dof-gt-MOST_DOF : goal.returns-then-dof-gt-MOST_DOF
@@ -28,9 +31,10 @@ returns-then-misfit c =
       c.if-misfit.true,
     )
 
-pub returns-then-why-ne0 : goal.returns-then-why-ne0
+pub returns-in_err-list_refusal : goal.returns-in_err-list_refusal
 unfolding matches_refusal
-returns-then-why-ne0 c =
+returns-in_err-list_refusal c =
+    let e : first_of (list_reasons c.args.list.now) ≡ number c.from_residual.result = search rules in
     rw (
       le-ltb _ _ c.if-dof-gt-MOST_DOF.false,
       ne_eqb _ _ c.if-list-eq0.false,
@@ -38,7 +42,7 @@ returns-then-why-ne0 c =
       c.if-misfit.false,
       list-first _ _,
     )
-    (sym (or_else-some _ _ _ (sym c.list_refusal-why.ensures) c.if-why-ne0.true))
+    (sym (or_else-some _ _ _ e (search rules)))
 
 pub returns-then-action-ne-ACTION : goal.returns-then-action-ne-ACTION
 unfolding matches_refusal
@@ -49,7 +53,7 @@ returns-then-action-ne-ACTION c =
       sym c.bad_matches.ensures ∙ c.if-bad_matches.false,
       c.if-misfit.false,
       list-first _ _,
-      sym c.list_refusal-why.ensures ∙ c.if-why-ne0.false,
+      sym c.in_ok-list_refusal.ensures,
       ne_eqb _ _ c.if-action-ne-ACTION.true,
     )
 
@@ -62,6 +66,6 @@ returns c =
       sym c.bad_matches.ensures ∙ c.if-bad_matches.false,
       c.if-misfit.false,
       list-first _ _,
-      sym c.list_refusal-why.ensures ∙ c.if-why-ne0.false,
+      sym c.in_ok-list_refusal.ensures,
       eq-eqb _ _ c.if-action-ne-ACTION.false,
     )
