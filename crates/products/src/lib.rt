@@ -16,14 +16,8 @@ pub fn strided(a: &[f64], i: usize, di: usize, b: &[f64], j: usize, dj: usize, n
         return 0.0;
     }
     let mut s = a[i] * b[j];
-    let mut p = i;
-    let mut q = j;
-    let mut k = 1;
-    while k < n {
-        p += di;
-        q += dj;
-        s = s + a[p] * b[q];
-        k += 1;
+    for k in 1..n {
+        s = s + a[i + k * di] * b[j + k * dj];
     }
     s
 }
@@ -64,9 +58,7 @@ fn write(from: [f64; 9], n: usize, out: &mut [f64], at: usize)
     requires { (n ≤ 9) × (at + n ≤ length out.old) }
     ensures { out.new ≡ written out.old at n (λ k. get_or from k nan) }
 {
-    for k in 0..n {
-        out[at + k] = from[k];
-    }
+    out[at..at + n].copy_from_slice(&from[..n]);
 }
 
 // a b, with a of `rows` by `inner` and b of `inner` by `cols`.

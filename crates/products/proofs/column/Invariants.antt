@@ -1,10 +1,6 @@
-use Prim.Native.Nat.{◌-◌}
 use Rattle.sums.specs.Fill.{Filling}
 use Rattle.products.specs.Entry.{column_entry}
 use Rattle.products.proofs.column.Given as goal
 
 abbrev pub invariant-loop-r : goal.invariant-loop-r
 invariant-loop-r l = Filling 9 l.rows (column_entry l.rows l.inner l.a l.b l.from) l.column l.r
-
-abbrev pub decreases-loop-r : goal.decreases-loop-r
-decreases-loop-r l = l.rows - l.r

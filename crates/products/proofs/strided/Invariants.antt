@@ -1,4 +1,4 @@
-use Prim.Native.Nat.{◌≤◌, ◌<◌, ◌-◌, ◌*◌, ◌+◌}
+use Prim.Native.Nat.{◌*◌, ◌+◌}
 use mathlib.Core.Path.{◌≡◌}
 use lib.ListN.{get_or}
 use lib.Ieee.{nan}
@@ -6,12 +6,4 @@ use Rattle.sums.specs.Sum.{sum_to, ◌⊗◌}
 use Rattle.products.proofs.strided.Given as goal
 
 abbrev pub invariant-loop-k : goal.invariant-loop-k
-invariant-loop-k l =
-    (0 < l.k)
-    × (l.k ≤ l.n)
-    × (l.p + l.di ≡ l.i + l.k * l.di)
-    × (l.q + l.dj ≡ l.j + l.k * l.dj)
-    × (l.s ≡ sum_to l.k (λ k. get_or l.a (l.i + k * l.di) nan ⊗ get_or l.b (l.j + k * l.dj) nan))
-
-abbrev pub decreases-loop-k : goal.decreases-loop-k
-decreases-loop-k l = l.n - l.k
+invariant-loop-k l = l.s ≡ sum_to l.k (λ k. get_or l.a (l.i + k * l.di) nan ⊗ get_or l.b (l.j + k * l.dj) nan)
