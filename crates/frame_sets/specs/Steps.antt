@@ -61,7 +61,7 @@ fixed_kept (x ∷ l) old n h = rw h
 -- frame k centred into its part of the list
 pub set-written : (frames out : List Float) (k at n : ℕ) (new : List Float) → n ≡ CENTRED → new ≡ centred_set (record_of MOMENTS frames k)
     → put_mid at n out new ≡ written out at CENTRED (λ r. centred_number frames r k)
-unfolding written centred_number put_mid
+unfolding written centred_number
 set-written frames out k at n new e f = rw (e, f, drop-drop CENTRED at out)
 
 -- the part that frame k is lent

@@ -4,6 +4,7 @@
 ghost use Rattle.std.specs.Prelude.{◌≡◌, ◌⊎◌, true, false, cond, [], ◌∷◌, ◌*◌, length};
 ghost use Rattle.std.specs.Float.Ieee.{lt};
 ghost use Rattle.refusals.specs.Refusal.{◌when◌, first_of};
+ghost use Rattle.refusals.specs.Number.{number};
 ghost use Rattle.sums.specs.Sum.{◌⊕◌, zero_f};
 ghost use Rattle.validate.specs.Finite.{all_finite};
 ghost use Rattle.point_moments.specs.Moments.{MOMENTS, moments_of};
@@ -12,6 +13,7 @@ ghost use Rattle.frame_sets.specs.Sets.{set_count, some_empty, count_sum, fixed_
 
 use point_moments::scatter::CENTRED;
 use point_moments::{MOMENTS, PointMoments};
+use refusals::Refusal;
 
 // The frames' counts: their sum in order, and whether one is at or below 0.
 #[derive(Clone, Copy)]
@@ -26,12 +28,10 @@ fn sum_counts(frames: &[f64]) -> CountSum
 {
     let mut sum = 0.0;
     let mut empty = false;
-    let mut k = 0;
-    while k < frames.len() / MOMENTS {
+    for k in 0..frames.len() / MOMENTS {
         let m = PointMoments::from_list(plane_fit::record_at(frames, MOMENTS, k));
-        sum = sum + m.count;
-        empty = empty | (m.count <= 0.0);
-        k += 1;
+        sum += m.count;
+        empty |= m.count <= 0.0;
     }
     CountSum { sum, empty }
 }
@@ -60,18 +60,18 @@ pub fn is_dropped(fixed: &[f64]) -> bool
     m.count <= 0.0
 }
 
-// 4 and 5, by whether a frame is empty and the sum of the frames' counts. The number of the reason to refuse, or 0.
-fn count_refusal(empty: bool, sum: f64, fixed: &[f64]) -> u32
+// 4 and 5, by whether a frame is empty and the sum of the frames' counts.
+fn count_refusal(empty: bool, sum: f64, fixed: &[f64]) -> Result<(), Refusal>
     requires { (length fixed.now ≡ 0) ⊎ (length fixed.now ≡ MOMENTS) }
-    ensures { result ≡ first_of (4 when empty ∷ 5 when lt (sum ⊕ fixed_count fixed.now) three ∷ []) }
+    ensures { number result ≡ first_of (4 when empty ∷ 5 when lt (sum ⊕ fixed_count fixed.now) three ∷ []) }
 {
     if empty {
-        return 4;
+        return Err(Refusal::EmptyFrame);
     }
     if sum + fixed_count(fixed) < 3.0 {
-        return 5;
+        return Err(Refusal::TooFewPoints);
     }
-    0
+    Ok(())
 }
 
 // The point total, of frames and of the fixed set if it is kept, by the sum of the frames' counts.
@@ -85,21 +85,21 @@ fn point_total(sum: f64, fixed: &[f64]) -> f64
     sum + fixed_count(fixed)
 }
 
-// What the counts of all sets tell: the number of the reason to refuse, 4 or 5, or 0; and the point total.
+// What the counts of all sets tell: whether they are refused, by 4 or 5; and the point total, on a refusal too.
 #[derive(Clone, Copy)]
 pub struct CountTest {
-    pub refusal: u32,
+    pub answer: Result<(), Refusal>,
     pub points: f64,
 }
 
 // The frames' counts are summed once, for test 5 and for the total.
 pub fn test_counts(frames: &[f64], fixed: &[f64]) -> CountTest
     requires { (length fixed.now ≡ 0) ⊎ (length fixed.now ≡ MOMENTS) }
-    ensures { (result.refusal ≡ first_of (count_reasons frames.now fixed.now)) × (result.points ≡ points frames.now fixed.now) }
+    ensures { (number result.answer ≡ first_of (count_reasons frames.now fixed.now)) × (result.points ≡ points frames.now fixed.now) }
 {
     let c = sum_counts(frames);
     CountTest {
-        refusal: count_refusal(c.empty, c.sum, fixed),
+        answer: count_refusal(c.empty, c.sum, fixed),
         points: point_total(c.sum, fixed),
     }
 }
@@ -129,12 +129,10 @@ fn frames_finite(frames: &[f64]) -> bool
     requires { length frames.now ≡ MOMENTS * set_count frames.now }
     ensures { result ≡ all_finite frames.now }
 {
-    let mut k = 0;
-    while k < frames.len() / MOMENTS {
+    for k in 0..frames.len() / MOMENTS {
         if !set_finite(plane_fit::record_at(frames, MOMENTS, k)) {
             return false;
         }
-        k += 1;
     }
     true
 }
@@ -167,12 +165,10 @@ pub fn centre_frames(frames: &[f64], out: &mut [f64])
     requires { (length out.old ≡ set_count frames.now * CENTRED) × (some_empty frames.now ≡ false) }
     ensures { out.new ≡ centred_frames frames.now }
 {
-    let mut k = 0;
-    while k < frames.len() / MOMENTS {
+    for k in 0..frames.len() / MOMENTS {
         let at = k * CENTRED;
         let end = at + CENTRED;
         centre(plane_fit::record_at(frames, MOMENTS, k), &mut out[at..end]);
-        k += 1;
     }
 }
 

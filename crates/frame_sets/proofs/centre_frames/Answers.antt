@@ -3,7 +3,7 @@ use Prim.Native.Nat.{◌-◌, ◌*◌, ◌+◌, ◌≤◌}
 use mathlib.Core.Path.{ap, ◌∙◌}
 use native.Mathlib.Omega.{arith}
 use lib.ListN.{length}
-use Rattle.sums.specs.Fill.{columns-none, column_ends, columns_more, columns_all}
+use Rattle.sums.specs.Fill.{column_ends, columns_more, columns_all}
 use Rattle.plane_fit.specs.Records.{whole, record_length}
 use Rattle.frame_sets.specs.Sets.{set_count, centred_set, centred_number, centred_frames}
 use Rattle.frame_sets.specs.Steps.{frame_mean, set-written, part-size}
@@ -32,6 +32,3 @@ loop-k-preserved c =
 pub returns : goal.returns
 unfolding centred_frames
 returns c = columns_all 13 _ _ _ _ _ c.requires.0 c.loop-k-test.false c.loop-k.invariant
-
-pub loop-k-init : goal.loop-k-init
-loop-k-init c = columns-none _ _ _ _

@@ -1,10 +1,6 @@
-use Prim.Native.Nat.{◌-◌}
 use Rattle.sums.specs.Fill.{Columns}
 use Rattle.frame_sets.specs.Sets.{set_count, centred_number}
 use Rattle.frame_sets.proofs.centre_frames.Given as goal
 
 abbrev pub invariant-loop-k : goal.invariant-loop-k
 invariant-loop-k l = Columns 13 (set_count l.frames) (centred_number l.frames) l.initial.out l.out l.k
-
-abbrev pub decreases-loop-k : goal.decreases-loop-k
-decreases-loop-k l = set_count l.frames - l.k

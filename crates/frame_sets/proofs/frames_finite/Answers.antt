@@ -1,6 +1,6 @@
 -- `frame_sets::frames_finite` meets its contract: after k turns the sets from k on decide. Assumes nothing.
 use Prim.Native.Nat.{◌*◌}
-use mathlib.Core.Path.{◌≡◌, refl, sym, ◌∙◌}
+use mathlib.Core.Path.{◌≡◌, sym, ◌∙◌}
 use mathlib.Core.Bool.{true, false}
 use native.Mathlib.Omega.{arith}
 use lib.ListN.{length}
@@ -23,7 +23,7 @@ returns-then-not-set_finite c =
     let at = c.loop-k in
     let more = sets_more frames at.k (whole MOMENTS frames at.k (omega arith) c.loop-k-test.true) in
     let set : all_finite (record_of MOMENTS frames at.k) ≡ false = sym (rw c.record_at.ensures at c.set_finite.ensures) ∙ c.if-not-set_finite.true in
-    sym (sym at.invariant.1 ∙ more ∙ rw set)
+    sym (sym at.invariant ∙ more ∙ rw set)
 
 pub loop-k-preserved : goal.loop-k-preserved
 loop-k-preserved c =
@@ -31,7 +31,7 @@ loop-k-preserved c =
     let at = c.loop-k in
     let more = sets_more frames at.k (whole MOMENTS frames at.k (omega arith) c.loop-k-test.true) in
     let set : all_finite (record_of MOMENTS frames at.k) ≡ true = sym (rw c.record_at.ensures at c.set_finite.ensures) ∙ c.if-not-set_finite.false in
-    (omega arith, sym (rw set at more) ∙ at.invariant.1)
+    sym (rw set at more) ∙ at.invariant
 
 pub returns : goal.returns
 unfolding all_finite
@@ -39,7 +39,4 @@ returns c =
     let at = c.loop-k in
     let frames = c.args.frames.now in
     let e : MOMENTS * at.k ≡ length frames = omega (arith, c.requires) in
-    rw (e, drop-length) at at.invariant.1
-
-pub loop-k-init : goal.loop-k-init
-loop-k-init c = (omega arith, refl)
+    rw (e, drop-length) at at.invariant

@@ -1,7 +1,6 @@
 -- `frame_sets::not_finite` meets its contract: the frames, then the fixed set if there is one. Assumes nothing.
 use mathlib.Core.Path.{sym, ◌∙◌}
 use Rattle.frame_sets.specs.Sets.{not_finite}
-use Rattle.frame_sets.specs.Steps.{one_set}
 use Rattle.frame_sets.proofs.Laws.{none_finite}
 use Rattle.frame_sets.proofs.not_finite.Goals as goal
 
@@ -14,14 +13,7 @@ unfolding not_finite
 returns-then-fixed-eq0 c =
     rw (sym c.frames_finite.ensures ∙ c.if-not-frames_finite.false, none_finite _ c.if-fixed-eq0.true)
 
-pub set_finite-requires : goal.set_finite-requires
-set_finite-requires c =
-    one_set c.args.fixed.now c.requires.1 c.if-fixed-eq0.false
-
 pub returns : goal.returns
 unfolding not_finite
 returns c =
     rw (c.set_finite.ensures, sym c.frames_finite.ensures ∙ c.if-not-frames_finite.false)
-
-pub frames_finite-requires : goal.frames_finite-requires
-frames_finite-requires c = c.requires.0

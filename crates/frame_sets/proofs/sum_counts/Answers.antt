@@ -18,9 +18,8 @@ pub loop-k-preserved : goal.loop-k-preserved
 unfolding count_at empty_at
 loop-k-preserved c =
     let at = c.loop-k in (
-      omega arith,
-      rw (c.from_list-m.ensures, c.record_at.ensures, at.invariant.1, add-one at.k),
-      rw (c.from_list-m.ensures, c.record_at.ensures) (somewhere_more _ at.k at.empty at.invariant.2),
+      rw (c.from_list-m.ensures, c.record_at.ensures, at.invariant.0, add-one at.k),
+      rw (c.from_list-m.ensures, c.record_at.ensures) (somewhere_more _ at.k at.empty at.invariant.1),
     )
 
 pub returns : goal.returns
@@ -28,7 +27,7 @@ unfolding count_sum some_empty
 returns c =
     let at = c.loop-k in
     let e : set_count c.args.frames.now ≡ at.k = omega arith in
-    (rw e at.invariant.1, rw e at.invariant.2)
+    (rw e at.invariant.0, rw e at.invariant.1)
 
 pub loop-k-init : goal.loop-k-init
-loop-k-init c = (omega arith, refl, sym (nowhere-none _))
+loop-k-init c = (refl, sym (nowhere-none _))

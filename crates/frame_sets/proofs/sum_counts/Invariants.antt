@@ -1,12 +1,8 @@
-use Prim.Native.Nat.{◌≤◌, ◌-◌}
 use mathlib.Core.Path.{◌≡◌}
 use Rattle.sums.specs.Sum.{sum_from_zero}
 use Rattle.normal_blocks.specs.Somewhere.{somewhere}
-use Rattle.frame_sets.specs.Sets.{set_count, count_at, empty_at}
+use Rattle.frame_sets.specs.Sets.{count_at, empty_at}
 use Rattle.frame_sets.proofs.sum_counts.Given as goal
 
 abbrev pub invariant-loop-k : goal.invariant-loop-k
-invariant-loop-k l = (l.k ≤ set_count l.frames) × (l.sum ≡ sum_from_zero l.k (count_at l.frames)) × (l.empty ≡ somewhere l.k (empty_at l.frames))
-
-abbrev pub decreases-loop-k : goal.decreases-loop-k
-decreases-loop-k l = set_count l.frames - l.k
+invariant-loop-k l = (l.sum ≡ sum_from_zero l.k (count_at l.frames)) × (l.empty ≡ somewhere l.k (empty_at l.frames))
