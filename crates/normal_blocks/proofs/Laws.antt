@@ -1,21 +1,19 @@
 -- Laws of block maps: words by their size, what an index list makes of a map, and what callers know where reason 10 does not apply. Assumes nothing.
-use Rattle.std.specs.Prelude.{ℕ, zero, suc, ◌+◌, ◌-◌, ◌<◌, ◌≤◌, ◌≡◌, refl, Bool, true, false, ◌&&◌, List, [], ◌∷◌, eqb, ltb, length, get_or, take, set}
+use Rattle.std.specs.Prelude.{ℕ, zero, suc, ◌+◌, ◌-◌, ◌<◌, ◌≤◌, ◌≡◌, refl, Bool, true, false, ◌&&◌, List, [], ◌∷◌, eqb, ltb, length, get_or, take, set, Option, Some, None}
 use Rattle.std.proofs.Common.{sym, ap, ◌∙◌, arith, take-suc, take-suc-set, take_all, add-one, eq-eqb, ne_eqb, lt-ltb, le-ltb, ltb-true, ltb-false, eqb-true, ⊎_elim, eq-or-lt_of_le, le_of_suc-le-suc, not-suc-le-zero}
 use Rattle.std.proofs.Math.ListN.{get_or-map, get_or-eq_default}
 use Rattle.normal_blocks.specs.Somewhere.{nowhere-at}
 use Rattle.normal_blocks.specs.Map.{kind, low, place_of, UNMAPPED, bad_word, word_at, lookup, remapped, exceeds, exceeds_at, some_exceeds}
-use Rattle.normal_blocks.specs.declared.Place.{Place}
-use Rattle.normal_blocks.specs.declared.Place.TheVariants.{At, Unmapped}
 
 -- ---- words by their size
-pub place_at : (w : ℕ) → w < UNMAPPED → place_of w ≡ At w
+pub place_at : (w : ℕ) → w < UNMAPPED → place_of w ≡ Some w
 unfolding place_of
 place_at w h =
     let k : kind w ≡ 0 = omega arith in
     let l : low w ≡ w = omega arith in
     rw (eq-eqb (kind w) 0 k, l)
 
-pub place_unmapped : (w : ℕ) → UNMAPPED ≤ w → place_of w ≡ Unmapped
+pub place_unmapped : (w : ℕ) → UNMAPPED ≤ w → place_of w ≡ None
 unfolding place_of
 place_unmapped w h =
     let k : kind w ≡ 0 → ⊥ = λ e. omega arith in
@@ -51,11 +49,11 @@ get_or_any [] k d e h = absurd (not-suc-le-zero h)
 get_or_any (x ∷ xs) zero d e h = refl
 get_or_any (x ∷ xs) (suc k) d e h = get_or_any xs k d e (le_of_suc-le-suc h)
 
-pub word_inside : (m : List ℕ) (k : ℕ) → k < length m → get_or m k 0 ≡ word_at m (At k)
+pub word_inside : (m : List ℕ) (k : ℕ) → k < length m → get_or m k 0 ≡ word_at m (Some k)
 unfolding word_at
 word_inside m k h = get_or_any m k 0 _ h
 
-pub word_past : (m : List ℕ) (k : ℕ) → length m ≤ k → UNMAPPED ≡ word_at m (At k)
+pub word_past : (m : List ℕ) (k : ℕ) → length m ≤ k → UNMAPPED ≡ word_at m (Some k)
 unfolding word_at
 word_past m k h = sym (get_or-eq_default m UNMAPPED h)
 
@@ -63,7 +61,7 @@ pub lookup_inside : (m : List ℕ) (k : ℕ) → k < length m → place_of (get_
 unfolding lookup
 lookup_inside m k h = ap place_of (word_inside m k h)
 
-pub lookup-past : (m : List ℕ) (k : ℕ) → length m ≤ k → Unmapped ≡ lookup m k
+pub lookup-past : (m : List ℕ) (k : ℕ) → length m ≤ k → None ≡ lookup m k
 unfolding lookup
 lookup-past m k h = rw (← word_past m k h) (sym (place_unmapped UNMAPPED (omega arith)))
 
@@ -94,14 +92,14 @@ remapped_all m list out e p =
     sym (take_all (length list) out (omega arith)) ∙ p ∙ take_all (length list) (remapped m list) (omega arith)
 
 -- what f makes of a place, if there is one
-abbrev pub and_then : Place → (ℕ → Place) → Place
-and_then (At k) f = f k
-and_then Unmapped f = Unmapped
+abbrev pub and_then : Option ℕ → (ℕ → Option ℕ) → Option ℕ
+and_then (Some k) f = f k
+and_then None f = None
 
-through : (m : List ℕ) (p : Place) → place_of (word_at m p) ≡ and_then p (lookup m)
+through : (m : List ℕ) (p : Option ℕ) → place_of (word_at m p) ≡ and_then p (lookup m)
 unfolding lookup word_at place_of
-through m (At k) = refl
-through m Unmapped = refl
+through m (Some k) = refl
+through m None = refl
 
 -- frame i goes where the old map has the frame at the list's place i, and nowhere where the list has none
 pub lookup-remapped : (m list : List ℕ) (i : ℕ) → lookup (remapped m list) i ≡ and_then (lookup list i) (lookup m)
@@ -109,12 +107,12 @@ unfolding lookup word_at
 lookup-remapped m list i = ap place_of (remapped-at m list i) ∙ through m (lookup list i)
 
 -- ---- what callers know where reason 10 does not apply
-pub fits : (n : ℕ) (width : ℕ → ℕ) (place : ℕ → Place) (count : ℕ) → some_exceeds n width place count ≡ false
+pub fits : (n : ℕ) (width : ℕ → ℕ) (place : ℕ → Option ℕ) (count : ℕ) → some_exceeds n width place count ≡ false
     → (k : ℕ) → k < count → exceeds n (width k) (place k) ≡ false
 unfolding some_exceeds exceeds_at
 fits n width place count e k h = nowhere-at (exceeds_at n width place) count e k h
 
-pub fits_at : (n width offset : ℕ) (p : Place) → p ≡ At offset → exceeds n width p ≡ false → offset + width ≤ n
+pub fits_at : (n width offset : ℕ) (p : Option ℕ) → p ≡ Some offset → exceeds n width p ≡ false → offset + width ≤ n
 unfolding exceeds
 fits_at n width offset p e f = ltb-false n (offset + width) (rw e at f)
 

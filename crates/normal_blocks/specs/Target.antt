@@ -1,19 +1,17 @@
 -- The target of a factor's blocks: what a frame adds at its place, and blocks that are lent as numbers. Assumes nothing.
-use Rattle.std.specs.Prelude.{ℕ, ◌+◌, ◌*◌, List, [], get_or, Float}
+use Rattle.std.specs.Prelude.{ℕ, ◌+◌, ◌*◌, List, [], get_or, Float, Option, Some, None}
 use Rattle.std.specs.Float.{nan}
 use Rattle.terms.specs.Terms.{Term, segment, block}
-use Rattle.normal_blocks.specs.declared.Place.{Place}
-use Rattle.normal_blocks.specs.declared.Place.TheVariants.{At, Unmapped}
 
 -- a frame's block of entries e goes to the Hessian of order n at its place; an unmapped frame adds nothing
-unfoldable pub hessian_at : ℕ → ℕ → Place → (ℕ → ℕ → Float) → List Term
-hessian_at n width (At offset) e = block n offset width e
-hessian_at n width Unmapped e = []
+unfoldable pub hessian_at : ℕ → ℕ → Option ℕ → (ℕ → ℕ → Float) → List Term
+hessian_at n width (Some offset) e = block n offset width e
+hessian_at n width None e = []
 
 -- its vector to the gradient
-unfoldable pub gradient_at : ℕ → Place → (ℕ → Float) → List Term
-gradient_at width (At offset) v = segment offset width v
-gradient_at width Unmapped v = []
+unfoldable pub gradient_at : ℕ → Option ℕ → (ℕ → Float) → List Term
+gradient_at width (Some offset) v = segment offset width v
+gradient_at width None v = []
 
 -- number r of a list, from a place on
 unfoldable pub number_from : List Float → ℕ → ℕ → Float

@@ -5,12 +5,12 @@ use Rattle.normal_blocks.proofs.exceeds.Goals as goal
 
 pub returns-then-n-width : goal.returns-then-n-width
 unfolding exceeds
-returns-then-n-width c = rw c.in-At.is (exceeds-wide _ _ _ c.if-n-width.true)
+returns-then-n-width c = rw c.in-Some.is (exceeds-wide _ _ _ c.if-n-width.true)
 
 pub returns-else-n-width : goal.returns-else-n-width
 unfolding exceeds
-returns-else-n-width c = rw c.in-At.is (exceeds_room _ _ _ c.if-n-width.false)
+returns-else-n-width c = rw c.in-Some.is (exceeds_room _ _ _ c.if-n-width.false)
 
-pub returns-in-Unmapped : goal.returns-in-Unmapped
+pub returns-in-None : goal.returns-in-None
 unfolding exceeds
-returns-in-Unmapped c = rw c.in-Unmapped.is
+returns-in-None c = rw c.in-None.is

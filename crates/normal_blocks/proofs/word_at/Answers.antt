@@ -5,12 +5,12 @@ use Rattle.normal_blocks.proofs.word_at.Goals as goal
 
 pub returns-then-k-map : goal.returns-then-k-map
 returns-then-k-map c =
-    rw (← c.in-At.ensures) (word_inside _ _ c.if-k-map.true)
+    rw (← c.in-Some.ensures) (word_inside _ _ c.if-k-map.true)
 
 pub returns-else-k-map : goal.returns-else-k-map
 returns-else-k-map c =
-    rw (← c.in-At.ensures) (word_past _ _ c.if-k-map.false)
+    rw (← c.in-Some.ensures) (word_past _ _ c.if-k-map.false)
 
-pub returns-in-Unmapped : goal.returns-in-Unmapped
+pub returns-in-None : goal.returns-in-None
 unfolding word_at
-returns-in-Unmapped c = rw (← c.in-Unmapped.ensures)
+returns-in-None c = rw (← c.in-None.ensures)
