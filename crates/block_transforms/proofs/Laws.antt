@@ -10,15 +10,15 @@ use lib.Dec.{eqb, ltb}
 use lib.ListN.{length}
 use lib.Ieee.{Float}
 use borrow.Author.Tests.{ltb-true, ltb-false, le-ltb, eqb-true, eqb-false, eq-eqb, ne_eqb, not-false}
+use Rattle.std.specs.Prelude.{Option, None}
 use Rattle.refusals.specs.Refusal.{none, either_none}
 use Rattle.normal_blocks.specs.Somewhere.{somewhere, nowhere-at}
 use Rattle.normal_blocks.specs.Map.{bad_words, lookup, some_exceeds}
 use Rattle.normal_blocks.specs.Calls.{map_refusal}
 use Rattle.call_lists.specs.Frames.{Frames}
-use Rattle.block_transforms.specs.Transform.{ROOM, shape_at, width_at, through}
+use Rattle.block_transforms.specs.Transform.{ROOM, sized, shape_at, width_at, through}
 use Rattle.block_transforms.specs.Reasons.{bad_beside, MOST_COLUMNS, misfit, misfit_at, some_misfit, through_refusal}
 use Rattle.block_transforms.specs.declared.Shape.{Shape}
-use Rattle.block_transforms.specs.declared.Shape.TheVariants.{Absent, Sized}
 
 -- ---- the test of the lengths, as code makes it
 pub beside_empty : (words shapes numbers : ℕ) → shapes ≡ 0 → not (eqb numbers 0) ≡ bad_beside words shapes numbers
@@ -70,23 +70,23 @@ pub record Fits (dof rows cols : ℕ) : Type 0 where
   pub narrow : cols ≤ MOST_COLUMNS
   pub tall : rows ≡ dof
 
-pub transform_fits : (dof rows cols : ℕ) (s : Shape) → s ≡ Sized rows cols → misfit dof s ≡ false → Fits dof rows cols
+pub transform_fits : (dof rows cols : ℕ) (s : Option Shape) → s ≡ sized rows cols → misfit dof s ≡ false → Fits dof rows cols
 unfolding misfit
 transform_fits dof rows cols s e h =
     let p = either_none (ltb MOST_COLUMNS cols) _ (rw e at h) in
     record { narrow = ltb-false MOST_COLUMNS cols p.0; tall = eqb-true rows dof (not-false _ p.1) }
 
-pub every_fits : (dof : ℕ) (shape : ℕ → Shape) (words : ℕ) → some_misfit dof shape words ≡ false → (k : ℕ) → k < words → misfit dof (shape k) ≡ false
+pub every_fits : (dof : ℕ) (shape : ℕ → Option Shape) (words : ℕ) → some_misfit dof shape words ≡ false → (k : ℕ) → k < words → misfit dof (shape k) ≡ false
 unfolding some_misfit misfit_at
 every_fits dof shape words e k h = nowhere-at (misfit_at dof shape) words e k h
 
 -- 9, 14 and 10
-pub record Passed (map : List ℕ) (shape : ℕ → Shape) (count dof n : ℕ) : Type 0 where
+pub record Passed (map : List ℕ) (shape : ℕ → Option Shape) (count dof n : ℕ) : Type 0 where
   pub words : bad_words map ≡ false
   pub fitting : some_misfit dof shape (length map) ≡ false
   pub fits : some_exceeds n (width_at shape dof) (lookup map) count ≡ false
 
-pub passed : (map : List ℕ) (shape : ℕ → Shape) (count dof n : ℕ) → through_refusal map shape count dof n ≡ 0 → Passed map shape count dof n
+pub passed : (map : List ℕ) (shape : ℕ → Option Shape) (count dof n : ℕ) → through_refusal map shape count dof n ≡ 0 → Passed map shape count dof n
 unfolding through_refusal
 passed map shape count dof n h =
     let nine = none (bad_words map) 8 _ h in
@@ -95,7 +95,7 @@ passed map shape count dof n h =
     record { words = nine.0; fitting = fourteen.0; fits = ten.0 }
 
 -- a word that has a transform is one of those that the shapes have words for
-pub shape-past : (shapes : List ℕ) (k rows cols : ℕ) → shape_at shapes k ≡ Sized rows cols → k < length shapes / 2
+pub shape-past : (shapes : List ℕ) (k rows cols : ℕ) → shape_at shapes k ≡ sized rows cols → k < length shapes / 2
 unfolding shape_at
 shape-past shapes k rows cols e = go (ltb k (length shapes / 2)) refl
   where
@@ -104,7 +104,7 @@ shape-past shapes k rows cols e = go (ltb k (length shapes / 2)) refl
     go false q = let z : ◌≡◌ {A = ℕ} 0 1 = cc (rw q at e) in absurd (omega arith)
 
 -- so it is a word of the map, and its 81 numbers are there
-pub transform_there : (words : ℕ) (shapes : List ℕ) (numbers k rows cols : ℕ) → bad_beside words (length shapes) numbers ≡ false → shape_at shapes k ≡ Sized rows cols
+pub transform_there : (words : ℕ) (shapes : List ℕ) (numbers k rows cols : ℕ) → bad_beside words (length shapes) numbers ≡ false → shape_at shapes k ≡ sized rows cols
     → (k < words) × (ROOM * k + ROOM ≤ numbers)
 transform_there words shapes numbers k rows cols ok sized =
     let some : k < length shapes / 2 = shape-past shapes k rows cols sized in
@@ -115,7 +115,7 @@ pub room : (rows cols : ℕ) → rows ≤ 9 → cols ≤ 9 → cols * rows ≤ R
 room rows cols few narrow = omega (arith, mul-le-mul_right rows narrow)
 
 -- ---- BOTH SLICES EMPTY MEAN NONE: the frames, and the tests, are those of a call without transforms
-pub shape-none : (k : ℕ) → shape_at [] k ≡ Absent
+pub shape-none : (k : ℕ) → shape_at [] k ≡ None
 unfolding shape_at
 shape-none k = rw (le-ltb k 0 (omega arith))
 
@@ -141,4 +141,4 @@ refusal_none map count dof n = rw (misfit-none dof (length map), exceeds-none n 
 
 pub through-none : (transforms : List Float) (f : Frames) → through (shape_at []) transforms f ≡ f
 unfolding width_at
-through-none transforms f = ap (λ (s : ℕ → Shape). through s transforms f) (fun_ext shape-none)
+through-none transforms f = ap (λ (s : ℕ → Option Shape). through s transforms f) (fun_ext shape-none)

@@ -4,12 +4,12 @@ use mathlib.Core.Path.{◌≡◌, refl}
 use mathlib.Core.Bool.{true, false}
 use mathlib.Core.List.{List, [], ◌∷◌, map}
 use lib.Ieee.{Float, binary64, of_bits, add, mul}
+use Rattle.std.specs.Prelude.{None}
 use Rattle.sums.specs.Sum.{zero_f}
 use Rattle.normal_blocks.specs.Somewhere.{somewhere}
 use Rattle.normal_blocks.specs.Map.{place_of, word_at, lookup, bad_word, bad_word_at, bad_words, exceeds, exceeds_at, some_exceeds}
-use Rattle.block_transforms.specs.Transform.{NO_TRANSFORM, shape_of, shape_at, entry_from, left_product, transformed_block, transformed_vector, width_at}
+use Rattle.block_transforms.specs.Transform.{NO_TRANSFORM, sized, shape_of, shape_at, entry_from, left_product, transformed_block, transformed_vector, width_at}
 use Rattle.block_transforms.specs.Reasons.{bad_beside, misfit, misfit_at, some_misfit, through_refusal}
-use Rattle.block_transforms.specs.declared.Shape.TheVariants.{Absent, Sized}
 
 -- matrices of two rows by their columns, and numbers by their bit patterns
 abbrev matrix : List ℕ → ℕ → ℕ → Float
@@ -86,15 +86,15 @@ unfolding transformed_block left_product entry_from of_bits add mul
 block_rising = refl
 
 -- ---- a shape is none only if both its words say so, and these are 4,294,967,295
-pub none_is : shape_at (0xFFFF_FFFF ∷ 0xFFFF_FFFF ∷ []) 0 ≡ Absent
+pub none_is : shape_at (0xFFFF_FFFF ∷ 0xFFFF_FFFF ∷ []) 0 ≡ None
 unfolding shape_at shape_of
 none_is = refl
 
-pub none_is_alone : shape_at (0xFFFF_FFFE ∷ 0xFFFF_FFFE ∷ []) 0 ≡ Sized 0xFFFF_FFFE 0xFFFF_FFFE
+pub none_is_alone : shape_at (0xFFFF_FFFE ∷ 0xFFFF_FFFE ∷ []) 0 ≡ sized 0xFFFF_FFFE 0xFFFF_FFFE
 unfolding shape_at shape_of
 none_is_alone = refl
 
-pub half-none : shape_at (NO_TRANSFORM ∷ 5 ∷ []) 0 ≡ Sized NO_TRANSFORM 5
+pub half-none : shape_at (NO_TRANSFORM ∷ 5 ∷ []) 0 ≡ sized NO_TRANSFORM 5
 unfolding shape_at shape_of
 half-none = refl
 

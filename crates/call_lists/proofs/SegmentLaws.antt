@@ -1,28 +1,27 @@
 -- Laws of segments: the segments of a layout are exactly those of its mapped frames, and a test that computes tells whether segments are apart. Assumes nothing.
-use Rattle.std.specs.Prelude.{ℕ, ◌+◌, ◌<◌, ◌≡◌, refl, Bool, true, false, ◌&&◌, ◌||◌, List, [], ◌∷◌, map, ◌⊎◌, leb}
+use Rattle.std.specs.Prelude.{ℕ, ◌+◌, ◌<◌, ◌≡◌, refl, Bool, true, false, ◌&&◌, ◌||◌, List, [], ◌∷◌, map, ◌⊎◌, leb, Option}
 use Rattle.std.proofs.Math.Bool.{and-eq-true_iff}
 use Rattle.std.proofs.Common.{inl, inr, ⊎_elim, arith, leb-true}
-use Rattle.normal_blocks.specs.declared.Place.{Place}
-use Rattle.normal_blocks.specs.declared.Place.TheVariants.{At, Unmapped}
+use Rattle.std.specs.declared.option.Option.TheVariants as option
 use Rattle.call_lists.specs.Lists.{Every, Some, Pairs}
 use Rattle.call_lists.specs.ListLaws.{some-upto, upto-some}
 use Rattle.call_lists.specs.Segments.{Layout, Segment, segment_at, frame_segment, segments_of, Has, HasRow, Disjoint}
 
 -- ---- what some segment of a layout has, a mapped frame's has, and the other way round
 module _ (P : Segment → Type 0) where
-  at_offset : (width : ℕ) (p : Place) → Some P (segment_at width p) → (o : ℕ) × (p ≡ At o) × P (record { offset = o; width = width })
-  at_offset width (At o) (inl h) = (o, refl, h)
-  at_offset width (At o) (inr n) = absurd n
-  at_offset width Unmapped n = absurd n
+  at_offset : (width : ℕ) (p : Option ℕ) → Some P (segment_at width p) → (o : ℕ) × (p ≡ option.Some o) × P (record { offset = o; width = width })
+  at_offset width (option.Some o) (inl h) = (o, refl, h)
+  at_offset width (option.Some o) (inr n) = absurd n
+  at_offset width option.None n = absurd n
 
-  pub frame_of : (l : Layout) → Some P (segments_of l) → (k : ℕ) × (k < l.count) × (o : ℕ) × (l.place k ≡ At o) × P (record { offset = o; width = l.width k })
+  pub frame_of : (l : Layout) → Some P (segments_of l) → (k : ℕ) × (k < l.count) × (o : ℕ) × (l.place k ≡ option.Some o) × P (record { offset = o; width = l.width k })
   unfolding frame_segment
   frame_of l s =
       let r = upto-some P l.count (frame_segment l) s in
       let q = at_offset (l.width r.0) (l.place r.0) r.2 in
       (r.0, r.1, q.0, q.1, q.2)
 
-  pub of_frame : (l : Layout) (k o : ℕ) → k < l.count → l.place k ≡ At o → P (record { offset = o; width = l.width k }) → Some P (segments_of l)
+  pub of_frame : (l : Layout) (k o : ℕ) → k < l.count → l.place k ≡ option.Some o → P (record { offset = o; width = l.width k }) → Some P (segments_of l)
   unfolding frame_segment
   of_frame l k o h at p = some-upto P l.count (frame_segment l) k h (rw at (inl p))
 

@@ -1,8 +1,6 @@
 -- Calls that are made of frames: what an accepted call of both factors is, with a plane and without. Definitions only.
-use Rattle.std.specs.Prelude.{ℕ, zero, suc, ◌-◌, ◌&&◌, List, [], Float}
+use Rattle.std.specs.Prelude.{ℕ, zero, suc, ◌-◌, ◌&&◌, List, [], Float, Option, Some, None}
 use Rattle.terms.specs.Terms.{Term, upto, add_if, within}
-use Rattle.normal_blocks.specs.declared.Place.{Place}
-use Rattle.normal_blocks.specs.declared.Place.TheVariants.{At, Unmapped}
 use Rattle.normal_blocks.specs.Target.{hessian_at, gradient_at}
 use Rattle.call_lists.specs.Segments.{Layout}
 use Rattle.call_lists.specs.Calls.{Call, accepted}
@@ -29,13 +27,13 @@ abbrev pub idle : Float → Call
 idle x = accepted x [] []
 
 -- ---- one cell under such a call: an entry for each frame, in order, whose segment has the cell's row and column
-abbrev pub entry_added : ℕ → Place → (ℕ → ℕ → Float) → ℕ → ℕ → Float → Float
-entry_added width (At o) e i j x = add_if (within o width i && within o width j) x (e (i - o) (j - o))
-entry_added width Unmapped e i j x = x
+abbrev pub entry_added : ℕ → Option ℕ → (ℕ → ℕ → Float) → ℕ → ℕ → Float → Float
+entry_added width (Some o) e i j x = add_if (within o width i && within o width j) x (e (i - o) (j - o))
+entry_added width None e i j x = x
 
-abbrev pub number_added : ℕ → Place → (ℕ → Float) → ℕ → Float → Float
-number_added width (At o) v i x = add_if (within o width i) x (v (i - o))
-number_added width Unmapped v i x = x
+abbrev pub number_added : ℕ → Option ℕ → (ℕ → Float) → ℕ → Float → Float
+number_added width (Some o) v i x = add_if (within o width i) x (v (i - o))
+number_added width None v i x = x
 
 -- cell (i, j) of the Hessian and cell i of the gradient after the first k frames, of their content x
 unfoldable pub hessian_cell : Frames → ℕ → ℕ → ℕ → Float → Float

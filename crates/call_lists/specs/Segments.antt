@@ -1,14 +1,13 @@
 -- The rows of a call's frames: a layout says where the frames go, and its segments which rows and cells are theirs. Definitions only.
-use Rattle.std.specs.Prelude.{ℕ, ◌+◌, ◌≤◌, ◌<◌, List, [], ◌∷◌}
+use Rattle.std.specs.Prelude.{ℕ, ◌+◌, ◌≤◌, ◌<◌, List, [], ◌∷◌, Option}
 use Rattle.terms.specs.Terms.{upto}
-use Rattle.normal_blocks.specs.declared.Place.{Place}
-use Rattle.normal_blocks.specs.declared.Place.TheVariants.{At, Unmapped}
+use Rattle.std.specs.declared.option.Option.TheVariants as option
 use Rattle.call_lists.specs.Lists.{Some}
 
 -- how many frames there are, each one's place, and how many rows it takes there
 pub record Layout : Type 0 where
   pub count : ℕ
-  pub place : ℕ → Place
+  pub place : ℕ → Option ℕ
   pub width : ℕ → ℕ
 
 -- `width` rows from `offset` on
@@ -17,9 +16,9 @@ pub record Segment : Type 0 where
   pub width : ℕ
 
 -- a mapped frame's segment is `width` rows from its offset; an unmapped frame has none
-abbrev pub segment_at : ℕ → Place → List Segment
-segment_at width (At o) = record { offset = o; width = width } ∷ []
-segment_at width Unmapped = []
+abbrev pub segment_at : ℕ → Option ℕ → List Segment
+segment_at width (option.Some o) = record { offset = o; width = width } ∷ []
+segment_at width option.None = []
 
 unfoldable pub frame_segment : Layout → ℕ → List Segment
 frame_segment l k = segment_at (l.width k) (l.place k)
