@@ -5,14 +5,14 @@ use borrow.Author.Rules.{rules}
 use lib.ListN.{length-set}
 use Rattle.terms.proofs.Laws.{upto-none, segment_more, segment_all}
 use Rattle.derivative.specs.Derivative.{combined}
-use Rattle.frame_segment.specs.Steps.{column_entry}
+use Rattle.frame_segment.specs.Steps.{rows_entry}
 use Rattle.frame_segment.proofs.add_column.Goals as goal
 
 pub loop-i-init : goal.loop-i-init
 loop-i-init c = (search rules, refl, upto-none _ _)
 
 pub loop-i-preserved : goal.loop-i-preserved
-unfolding column_entry combined
+unfolding rows_entry combined
 loop-i-preserved c =
     let at = c.loop-i in
     (search rules, simp length-set at.invariant.1, segment_more _ _ _ _ at.i _ at.invariant.2 refl)

@@ -2,12 +2,12 @@ use Prim.Native.Nat.{◌≤◌, ◌-◌}
 use mathlib.Core.Path.{◌≡◌}
 use lib.ListN.{length}
 use Rattle.terms.specs.Terms.{add_all, upto, cell_at}
-use Rattle.frame_segment.specs.Steps.{column_entry}
+use Rattle.frame_segment.specs.Steps.{rows_entry}
 use Rattle.frame_segment.proofs.add_column.Given as goal
 
 abbrev pub invariant-loop-i : goal.invariant-loop-i
 invariant-loop-i l =
-    (l.i ≤ l.width) × (length l.h ≡ length l.initial.h) × (l.h ≡ add_all l.initial.h (upto l.i (cell_at l.base (column_entry l.p0 l.p1 l.p2 l.m l.s0 l.s1 l.s2 l.t l.count l.weight))))
+    (l.i ≤ l.width) × (length l.h ≡ length l.initial.h) × (l.h ≡ add_all l.initial.h (upto l.i (cell_at l.base (λ i. rows_entry l.r l.count l.weight i l.j))))
 
 abbrev pub decreases-loop-i : goal.decreases-loop-i
 decreases-loop-i l = l.width - l.i
