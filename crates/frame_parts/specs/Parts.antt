@@ -1,25 +1,23 @@
 -- What a frame of three columns adds and costs, number after number: its block by columns, its vector, its cost. Those of a batch stand side by side
 -- (batches). Definitions, then their laws. Assumes nothing.
 -- x is the frame's action, f the centred frame, n the plane's normal and offset its offset.
-use Rattle.std.specs.Prelude.{ℕ, ◌+◌, ◌*◌, ◌/◌, ◌%◌, ◌<◌, ◌≤◌, ◌≡◌, refl, List, [], ◌∷◌, ◌++◌, get_or, Float}
+use Rattle.std.specs.Prelude.{ℕ, ◌+◌, ◌*◌, ◌/◌, ◌%◌, ◌<◌, ◌≤◌, ◌≡◌, refl, List, [], ◌∷◌, ◌++◌, Float}
 use Rattle.std.proofs.Common.{add-zero, arith, ap, ◌∙◌}
-use Rattle.std.specs.Float.{nan}
-use Rattle.sums.specs.Sum.{tab, column}
-use Rattle.sums.specs.Laws.{get_or-tab, tab-same}
-use Rattle.sums.specs.Fill.{padded}
+use Rattle.sums.specs.Sum.{tab}
+use Rattle.sums.specs.Laws.{get_or-tab}
+use Rattle.sums.specs.Fill.{padded, first_of}
 use Rattle.lists.specs.Part.{◌!◌}
 use Rattle.batches.specs.Beside.{place, beside_of, place_is}
 use Rattle.terms.specs.Terms.{add_all, segment}
 use Rattle.terms.proofs.Laws.{upto-none, segment-same, block_more, block_all, column-before}
-use Rattle.derivative.specs.Action.{origin_place}
-use Rattle.derivative.specs.Derivative.{normal_row, combined, shifted, d_an, rows}
 use Rattle.point_moments.specs.declared.scatter.Centred.{Centred}
 use Rattle.plane_fit.specs.Fit.{frame_at, action_at}
 use Rattle.frame_normal.specs.Normal.{normal_in}
 use Rattle.frame_cost.specs.Cost.{pull_of, frame_along, frame_cost}
 use Rattle.frame_cost.specs.declared.Pull.{Pull}
-use Rattle.frame_segment.specs.Frame.{block_entry, pulled_entry}
-use Rattle.frame_segment.specs.Steps.{column_entry, rows_entry, rows_vector, Added, entry_is, vector_is}
+use Rattle.frame_segment.specs.Frame.{block_entry}
+use Rattle.frame_segment.specs.declared.Rows.{Rows}
+use Rattle.frame_segment.specs.Steps.{frame_rows, rows_entry, rows_vector, Added, entry_is, vector_is}
 use Rattle.frame_parts.specs.Frame.{vector_entry}
 use Rattle.frame_parts.specs.declared.Part.{Part}
 
@@ -99,25 +97,31 @@ module _ (cells : List Float) (k : ℕ) where
       record { hessian = block_all h h3 n at 3 3 e refl third; gradient = three_added 9 at d g id ed }
 
 -- THE PART OF A FRAME: each premise is what one call of the code says, in the code's order
-pub part_is : (x n : List Float) (f : Centred) (offset weight : Float) {o d0 d1 d2 m p0 p1 p2 u v w g : List Float} {pull : Pull}
-    → pull ≡ pull_of f (normal_in x n) (frame_along x f n offset) weight
-    → o ≡ padded 9 3 (normal_row x origin_place n) → d0 ≡ padded 9 3 (d_an x n 0) → d1 ≡ padded 9 3 (d_an x n 1) → d2 ≡ padded 9 3 (d_an x n 2)
-    → m ≡ padded 9 3 (shifted (λ i. get_or o i nan) (rows d0 d1 d2) f.mean)
-    → p0 ≡ padded 9 3 (combined (rows d0 d1 d2) (column 3 f.scatter 0))
-    → p1 ≡ padded 9 3 (combined (rows d0 d1 d2) (column 3 f.scatter 1))
-    → p2 ≡ padded 9 3 (combined (rows d0 d1 d2) (column 3 f.scatter 2))
-    → u ≡ tab 3 (column_entry p0 p1 p2 m (d0 ! 0) (d1 ! 0) (d2 ! 0) (m ! 0) f.count weight)
-    → v ≡ tab 3 (column_entry p0 p1 p2 m (d0 ! 1) (d1 ! 1) (d2 ! 1) (m ! 1) f.count weight)
-    → w ≡ tab 3 (column_entry p0 p1 p2 m (d0 ! 2) (d1 ! 2) (d2 ! 2) (m ! 2) f.count weight)
-    → g ≡ tab 3 (rows_vector d0 d1 d2 m pull.turn pull.shift weight)
-    → numbers_of (record { block = (u ! 0) ∷ (u ! 1) ∷ (u ! 2) ∷ (v ! 0) ∷ (v ! 1) ∷ (v ! 2) ∷ (w ! 0) ∷ (w ! 1) ∷ (w ! 2) ∷ []; vector = g; cost = pull.cost })
+pub part_is : (x n : List Float) (f : Centred) (offset weight : Float) {r : Rows} {u v w g : List Float} {pull : Pull}
+    → pull ≡ pull_of f (normal_in x n) (frame_along x f n offset) weight → r ≡ frame_rows x f n 3
+    → u ≡ padded 9 3 (λ i. rows_entry r f.count weight i 0) → v ≡ padded 9 3 (λ i. rows_entry r f.count weight i 1) → w ≡ padded 9 3 (λ i. rows_entry r f.count weight i 2)
+    → g ≡ padded 9 3 (rows_vector r pull.turn pull.shift weight)
+    → numbers_of (record { block = (u ! 0) ∷ (u ! 1) ∷ (u ! 2) ∷ (v ! 0) ∷ (v ! 1) ∷ (v ! 2) ∷ (w ! 0) ∷ (w ! 1) ∷ (w ! 2) ∷ []; vector = (g ! 0) ∷ (g ! 1) ∷ (g ! 2) ∷ []; cost = pull.cost })
     ≡ part_of x f n offset weight
-unfolding part_of vector_entry frame_cost rows_entry
-part_is x n f offset weight {o} {d0} {d1} {d2} {m} {p0} {p1} {p2} {u} {v} {w} {g} {pull} hp ho h0 h1 h2 hm q0 q1 q2 hu hv hw hg =
-    let entry = entry_is x n f 3 o d0 d1 d2 ho h0 h1 h2 m p0 p1 p2 hm q0 q1 q2 weight in
-    let first : u ≡ tab 3 (λ i. block_entry x f n weight i 0) = hu ∙ tab-same 3 _ _ (λ i l. entry i 0 l (omega arith)) in
-    let second : v ≡ tab 3 (λ i. block_entry x f n weight i 1) = hv ∙ tab-same 3 _ _ (λ i l. entry i 1 l (omega arith)) in
-    let third : w ≡ tab 3 (λ i. block_entry x f n weight i 2) = hw ∙ tab-same 3 _ _ (λ i l. entry i 2 l (omega arith)) in
-    let last : g ≡ tab 3 (pulled_entry x f n pull.turn pull.shift weight)
-    = hg ∙ tab-same 3 _ _ (vector_is x n f 3 o d0 d1 d2 ho h0 h1 h2 m p0 p1 p2 hm q0 q1 q2 pull.turn pull.shift weight) in
-    rw (first, second, third, last, hp)
+unfolding part_of vector_entry frame_cost
+part_is x n f offset weight {r} {u} {v} {w} {g} {pull} hp hr hu hv hw hg =
+    let entry = entry_is x n f 3 hr weight in
+    let first = λ (i : ℕ) (l : i < 3). first_of 9 3 _ u hu i l ∙ entry i 0 l (omega arith) in
+    let second = λ (i : ℕ) (l : i < 3). first_of 9 3 _ v hv i l ∙ entry i 1 l (omega arith) in
+    let third = λ (i : ℕ) (l : i < 3). first_of 9 3 _ w hw i l ∙ entry i 2 l (omega arith) in
+    let last = λ (i : ℕ) (l : i < 3). first_of 9 3 _ g hg i l ∙ vector_is x n f 3 hr pull.turn pull.shift weight i l in
+    rw (
+      first 0 (omega arith),
+      first 1 (omega arith),
+      first 2 (omega arith),
+      second 0 (omega arith),
+      second 1 (omega arith),
+      second 2 (omega arith),
+      third 0 (omega arith),
+      third 1 (omega arith),
+      third 2 (omega arith),
+      last 0 (omega arith),
+      last 1 (omega arith),
+      last 2 (omega arith),
+      hp,
+    )

@@ -4,15 +4,16 @@
 
 ghost use Rattle.std.specs.Prelude.{◌≡◌, ◌+◌, ◌*◌, ◌≤◌, ◌<◌, length};
 ghost use Rattle.batches.specs.Beside.{put_beside, Beside};
-ghost use Rattle.sums.specs.Sum.{tab};
 ghost use Rattle.lists.specs.Part.{◌!◌};
 ghost use Rattle.terms.specs.Terms.{add_all, segment};
 ghost use Rattle.derivative.specs.Action.{action_size};
 ghost use Rattle.point_moments.specs.Scatter.{CENTRED};
-ghost use Rattle.frame_segment.specs.Steps.{column_entry, rows_vector, Added};
+ghost use Rattle.frame_segment.specs.Steps.{Added};
 ghost use Rattle.frame_parts.specs.Parts.{BATCH, PART, PARTS, numbers_of, part_of, part_at, three_in, block_in, vector_in, cost_in};
 
-use derivative::{ACTION, AXIS_X, AXIS_Y, AXIS_Z, ORIGIN};
+use derivative::ACTION;
+use frame_segment::Rows;
+use plane::Plane;
 use point_moments::scatter::{CENTRED, Centred};
 
 // How many frames' parts are worked out before they are added.
@@ -26,65 +27,19 @@ pub struct Part {
     pub cost: f64,
 }
 
-// A column of the block.
-fn column_of(
-    p0: [f64; 9],
-    p1: [f64; 9],
-    p2: [f64; 9],
-    m: [f64; 9],
-    s: [f64; 3],
-    t: f64,
-    count: f64,
-    weight: f64,
-) -> [f64; 3]
-    ensures { result ≡ tab 3 (column_entry p0 p1 p2 m (s ! 0) (s ! 1) (s ! 2) t count weight) }
-{
-    let a = (p0[0] * s[0] + p1[0] * s[1] + p2[0] * s[2] + m[0] * t * count) * weight;
-    let b = (p0[1] * s[0] + p1[1] * s[1] + p2[1] * s[2] + m[1] * t * count) * weight;
-    let c = (p0[2] * s[0] + p1[2] * s[1] + p2[2] * s[2] + m[2] * t * count) * weight;
-    [a, b, c]
-}
-
-// The vector.
-fn vector_of(
-    d0: [f64; 9],
-    d1: [f64; 9],
-    d2: [f64; 9],
-    m: [f64; 9],
-    s: [f64; 3],
-    t: f64,
-    weight: f64,
-) -> [f64; 3]
-    ensures { result ≡ tab 3 (rows_vector d0 d1 d2 m s t weight) }
-{
-    let a = (d0[0] * s[0] + d1[0] * s[1] + d2[0] * s[2] + m[0] * t) * weight;
-    let b = (d0[1] * s[0] + d1[1] * s[1] + d2[1] * s[2] + m[1] * t) * weight;
-    let c = (d0[2] * s[0] + d1[2] * s[1] + d2[2] * s[2] + m[2] * t) * weight;
-    [a, b, c]
-}
-
-fn part_of(x: &[f64], f: Centred, normal: [f64; 3], offset: f64, weight: f64) -> Part
+fn part_of(x: &[f64], f: Centred, plane: Plane, weight: f64) -> Part
     requires { length x.now ≡ action_size }
-    ensures { numbers_of result ≡ part_of x.now f normal offset weight }
+    ensures { numbers_of result ≡ part_of x.now f plane.normal plane.offset weight }
 {
-    let mean = f.mean;
-    let c = f.scatter;
-    let pull = frame_cost::frame_pull(x, f, normal, offset, weight);
-    let turn = pull.turn;
-    let o = derivative::normal_row(x, ORIGIN, normal, 3);
-    let d0 = derivative::normal_row(x, AXIS_X, normal, 3);
-    let d1 = derivative::normal_row(x, AXIS_Y, normal, 3);
-    let d2 = derivative::normal_row(x, AXIS_Z, normal, 3);
-    let m = derivative::shifted_row(o, d0, d1, d2, mean, 3);
-    let p0 = derivative::combined_row(d0, d1, d2, [c[0], c[1], c[2]], 3);
-    let p1 = derivative::combined_row(d0, d1, d2, [c[3], c[4], c[5]], 3);
-    let p2 = derivative::combined_row(d0, d1, d2, [c[6], c[7], c[8]], 3);
-    let u = column_of(p0, p1, p2, m, [d0[0], d1[0], d2[0]], m[0], f.count, weight);
-    let v = column_of(p0, p1, p2, m, [d0[1], d1[1], d2[1]], m[1], f.count, weight);
-    let w = column_of(p0, p1, p2, m, [d0[2], d1[2], d2[2]], m[2], f.count, weight);
+    let pull = frame_cost::frame_pull(x, f, plane, weight);
+    let r = Rows::of_frame(x, f, plane.normal, 3);
+    let u = r.column(0, f.count, weight, 3);
+    let v = r.column(1, f.count, weight, 3);
+    let w = r.column(2, f.count, weight, 3);
+    let g = r.vector(pull.turn, pull.shift, weight, 3);
     Part {
         block: [u[0], u[1], u[2], v[0], v[1], v[2], w[0], w[1], w[2]],
-        vector: vector_of(d0, d1, d2, m, turn, pull.shift, weight),
+        vector: [g[0], g[1], g[2]],
         cost: pull.cost,
     }
 }
@@ -117,18 +72,17 @@ pub fn fill_parts(
     actions: &[f64],
     from: usize,
     size: usize,
-    normal: [f64; 3],
-    offset: f64,
+    plane: Plane,
     weight: f64,
     cells: &mut [f64; 52],
 )
     requires { (size ≤ BATCH) × (length cells.old ≡ PARTS) × (CENTRED * (from + size) ≤ length frames.now) × (action_size * (from + size) ≤ length actions.now) }
-    ensures { Beside BATCH PART (λ k. part_at frames.now actions.now normal offset weight (from + k)) size cells.new }
+    ensures { Beside BATCH PART (λ k. part_at frames.now actions.now plane.normal plane.offset weight (from + k)) size cells.new }
 {
     for k in 0..size {
         let f = Centred::from_list(plane_fit::whole_at(frames, CENTRED, from + k));
         let x = plane_fit::whole_at(actions, ACTION, from + k);
-        put_part(cells, k, part_of(x, f, normal, offset, weight));
+        put_part(cells, k, part_of(x, f, plane, weight));
     }
 }
 

@@ -25,7 +25,7 @@ unfolding part_of
 loop-k-preserved c =
     let l = c.loop-k in
     let a = c.args in
-    let is : numbers_of c.part_of.result ≡ part_at a.frames.now a.actions.now a.normal a.offset a.weight (a.from + l.k)
+    let is : numbers_of c.part_of.result ≡ part_at a.frames.now a.actions.now a.plane.normal a.plane.offset a.weight (a.from + l.k)
     = rw (c.whole_at-x.ensures, c.from_list-f.ensures, c.whole_at.ensures) at c.part_of.ensures in
     (search rules, beside_more _ (omega (arith, c.requires.0, l.invariant.0)) is refl c.put_part.ensures l.invariant.1)
 

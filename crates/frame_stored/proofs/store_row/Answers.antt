@@ -2,11 +2,12 @@
 use mathlib.Core.Path.{refl}
 use borrow.Author.Rules.{rules}
 use Rattle.sums.specs.Fill.{writing_none, writing_more, writing_all}
-use Rattle.frame_stored.specs.Stored.{row_entry}
+use Rattle.derivative.specs.Derivative.{combined}
+use Rattle.frame_segment.specs.Steps.{rows_entry}
 use Rattle.frame_stored.proofs.store_row.Goals as goal
 
 pub loop-j-preserved : goal.loop-j-preserved
-unfolding row_entry
+unfolding rows_entry combined
 loop-j-preserved c =
     let l = c.loop-j in
     writing_more _ _ _ _ l.out l.j _ (search rules) (search rules) refl l.invariant

@@ -6,7 +6,7 @@ use Rattle.frame_stored.proofs.store_rows.Given as goal
 
 abbrev pub invariant-loop-i : goal.invariant-loop-i
 invariant-loop-i l =
-    (l.i ≤ l.width) × Rows l.stride (l.width + 1) (row_with l.width (rows_entry l.d0 l.d1 l.d2 l.p0 l.p1 l.p2 l.m l.count l.weight) (λ j. l.v ! j)) l.i l.out
+    (l.i ≤ l.width) × Rows l.stride (l.width + 1) (row_with l.width (rows_entry l.r l.count l.weight) (λ j. l.v ! j)) l.i l.out
 
 abbrev pub decreases-loop-i : goal.decreases-loop-i
 decreases-loop-i l = l.width - l.i
