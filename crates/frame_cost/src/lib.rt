@@ -64,8 +64,8 @@ fn fill_costs(
     weight: f64,
     costs: &mut [f64; 8],
 )
-    requires { (CENTRED * (from + size) ≤ length frames.now) × (action_size * (from + size) ≤ length actions.now) × (size ≤ 8) × (length costs.old ≡ 8) }
-    ensures { (length costs.new ≡ 8) × First size costs.new (λ k. cost_at frames.now actions.now plane.normal plane.offset weight (from + k)) }
+    requires { (CENTRED * (from + size) ≤ length frames.now) × (action_size * (from + size) ≤ length actions.now) × (size ≤ 8) }
+    ensures { First size costs.new (λ k. cost_at frames.now actions.now plane.normal plane.offset weight (from + k)) }
 {
     for k in 0..size {
         let f = Centred::from_list(plane_fit::whole_at(frames, CENTRED, from + k));
@@ -94,12 +94,10 @@ pub fn frames_cost(frames: &[f64], actions: &[f64], plane: Plane, weight: f64, c
 {
     let mut sum = 0.0;
     let mut costs = [0.0; 8];
-    let mut from = 0;
-    while from < count {
+    for from in (0..count).step_by(BATCH) {
         let size = lists::batch_size(count, from, BATCH);
         fill_costs(frames, actions, from, size, plane, weight, &mut costs);
         sum = with_costs(sum, &costs, size);
-        from = from + size;
     }
     sum
 }

@@ -100,12 +100,10 @@ fn weigh(frames: &[f64], actions: &[f64]) -> Weighted
         total: 0.0,
         sum: [0.0; 3],
     };
-    let mut k = 0;
-    while k < frames.len() / CENTRED {
+    for k in 0..frames.len() / CENTRED {
         let f = Centred::from_list(frame(frames, k));
         let w = centre(whole_at(actions, ACTION, k), f);
         s = s.with_set(w, f.count);
-        k += 1;
     }
     s
 }
@@ -162,7 +160,7 @@ const BATCH: usize = 8;
 
 // Puts a column of a part into those of a batch as that of its k-th frame.
 fn put_column(cells: &mut [f64; 24], k: usize, column: [f64; 3])
-    requires { (k < BATCH) × (length cells.old ≡ COLUMNS) }
+    requires { k < BATCH }
     ensures { Put 3 k column cells.old cells.new }
 {
     for e in 0..3 {
@@ -200,7 +198,7 @@ fn fill_parts(
     b: &mut [f64; 24],
     c: &mut [f64; 24],
 )
-    requires { (CENTRED * (from + size) ≤ length frames.now) × (action_size * (from + size) ≤ length actions.now) × (size ≤ BATCH) × (length a.old ≡ COLUMNS) × (length b.old ≡ COLUMNS) × (length c.old ≡ COLUMNS) }
+    requires { (CENTRED * (from + size) ≤ length frames.now) × (action_size * (from + size) ≤ length actions.now) × (size ≤ BATCH) }
     ensures { Held frames.now actions.now mean from size a.new b.new c.new }
 {
     for k in 0..size {
@@ -233,12 +231,10 @@ fn scatter_of(frames: &[f64], actions: &[f64], count: usize, mean: [f64; 3]) -> 
     let mut a = [0.0; 24];
     let mut b = [0.0; 24];
     let mut c = [0.0; 24];
-    let mut from = 0;
-    while from < count {
+    for from in (0..count).step_by(BATCH) {
         let size = lists::batch_size(count, from, BATCH);
         fill_parts(frames, actions, from, size, mean, &mut a, &mut b, &mut c);
         s = with_parts(s, &a, &b, &c, size);
-        from = from + size;
     }
     s
 }

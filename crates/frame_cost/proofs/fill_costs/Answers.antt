@@ -10,7 +10,7 @@ use Rattle.frame_cost.specs.Cost.{frame_cost, cost_at}
 use Rattle.frame_cost.proofs.fill_costs.Goals as goal
 
 pub loop-k-init : goal.loop-k-init
-loop-k-init c = (search rules, search rules, λ k h. absurd (not-suc-le-zero h))
+loop-k-init c = (search rules, λ k h. absurd (not-suc-le-zero h))
 
 pub from_list-f-requires : goal.from_list-f-requires
 from_list-f-requires c = rw c.whole_at.ensures (record_length 13 _ _ (omega arith))
@@ -25,10 +25,10 @@ loop-k-preserved c =
     let a = c.args in
     let cost = cost_at a.frames.now a.actions.now a.plane.normal a.plane.offset a.weight (a.from + at.k) in
     let stored : c.frame_pull-p.result.cost ≡ cost = rw (c.frame_pull-p.ensures, c.whole_at-x.ensures, c.from_list-f.ensures, c.whole_at.ensures) in
-    (search rules, search rules, first_more at.costs _ at.k _ (omega (arith, c.requires.2)) stored at.invariant.2)
+    (search rules, first_more at.costs _ at.k _ (omega arith) stored at.invariant.1)
 
 pub returns : goal.returns
 returns c =
     let at = c.loop-k in
     let e : c.args.size ≡ at.k = omega arith in
-    (search rules, rw e at.invariant.2)
+    rw e at.invariant.1

@@ -10,7 +10,7 @@ use Rattle.plane_fit.specs.Parts.{held_none, held_more}
 use Rattle.plane_fit.proofs.fill_parts.Goals as goal
 
 pub loop-k-init : goal.loop-k-init
-loop-k-init c = (search rules, held_none _ _ _ _ _ _ _ (search rules) (search rules) (search rules))
+loop-k-init c = held_none _ _ _ _ _ _ _ (search rules) (search rules) (search rules)
 
 pub from_list-f-requires : goal.from_list-f-requires
 from_list-f-requires c =
@@ -26,9 +26,9 @@ pub loop-k-preserved : goal.loop-k-preserved
 loop-k-preserved c =
     let s = c.args in
     let part = part_is _ _ _ _ _ (s.from + c.loop-k.k) c.whole_at-in-loop-k.ensures (c.from_list-f.ensures ∙ ap centred_of c.whole_at.ensures) in
-    (search rules, held_more _ _ _ s.from c.loop-k.k _ c.loop-k.a _ c.loop-k.b _ c.loop-k.c _ (omega arith) (c.spread_of-part.ensures ∙ part) c.put_column.ensures c.put_column-in-loop-k.ensures c.put_column-in-loop-k-2.ensures c.loop-k.invariant.1)
+    held_more _ _ _ s.from c.loop-k.k _ c.loop-k.a _ c.loop-k.b _ c.loop-k.c _ (omega arith) (c.spread_of-part.ensures ∙ part) c.put_column.ensures c.put_column-in-loop-k.ensures c.put_column-in-loop-k-2.ensures c.loop-k.invariant
 
 pub returns : goal.returns
 returns c =
     let e : c.loop-k.k ≡ c.args.size = omega arith in
-    rw e at c.loop-k.invariant.1
+    rw e at c.loop-k.invariant

@@ -2,7 +2,6 @@
 use mathlib.Core.Path.{◌≡◌}
 use native.Mathlib.Numerals.{add-one}
 use native.Mathlib.Omega.{arith}
-use borrow.Author.Rules.{rules}
 use Rattle.plane_fit.specs.Records.{record_length}
 use Rattle.plane_fit.specs.Fit.{frame_count, count_at, weighted_at}
 use Rattle.plane_fit.proofs.weigh.Goals as goal
@@ -17,9 +16,9 @@ pub loop-k-preserved : goal.loop-k-preserved
 unfolding count_at weighted_at
 loop-k-preserved c =
     let at = c.loop-k in
-    (search rules, rw (c.with_set-s.ensures, c.centre-w.ensures, c.whole_at.ensures, c.from_list-f.ensures, c.frame.ensures, at.invariant.1, add-one at.k))
+    rw (c.with_set-s.ensures, c.centre-w.ensures, c.whole_at.ensures, c.from_list-f.ensures, c.frame.ensures, at.invariant, add-one at.k)
 
 pub returns : goal.returns
 returns c =
     let e : frame_count c.args.frames.now ≡ c.loop-k.k = omega arith in
-    rw e c.loop-k.invariant.1
+    rw e c.loop-k.invariant
