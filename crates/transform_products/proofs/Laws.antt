@@ -8,6 +8,7 @@ use lib.ListN.{length, set, length-set, length-append, replicate, length-replica
 use lib.Seq.{get_or-set_same, get_or-set_other}
 use lib.Ieee.{Float, nan}
 use borrow.Author.Tests.{lt-ltb, le-ltb}
+use Rattle.std.specs.Prelude.{Option, Some, None}
 use Rattle.sums.specs.Sum.{◌⊕◌, ◌⊗◌, zero_f, sum_to}
 use Rattle.sums.specs.Laws.{length-tab, sum_to_more, sum_to-same, up_to}
 use Rattle.sums.specs.Fill.{padded, first_of, written, length-written, written-before, written_inside, written_same, written_more, column_ends}
@@ -16,9 +17,8 @@ use Rattle.terms.specs.Terms.{add_all, segment, block}
 use Rattle.terms.proofs.Laws.{segment-same, block_same}
 use Rattle.normal_blocks.specs.Target.{number_from}
 use Rattle.block_transforms.proofs.Laws.{room}
-use Rattle.block_transforms.specs.Transform.{ROOM, entry_from, left_product, transformed_block, transformed_vector, block_under, vector_under, width_under}
+use Rattle.block_transforms.specs.Transform.{ROOM, entry_from, left_product, transformed_block, transformed_vector, block_under, vector_under, width_under, sized}
 use Rattle.block_transforms.specs.declared.Shape.{Shape}
-use Rattle.block_transforms.specs.declared.Shape.TheVariants.{Absent, Sized}
 use Rattle.transform_products.specs.Rows.{rows_of, row_with, spaced, Sums, Raised, Rows, AddedThrough}
 
 -- row i ends within ninety numbers
@@ -117,18 +117,18 @@ unfolding transformed_vector
 vector_through rows t v v' same i = sum_to-same rows _ _ (λ r h. ap (λ (x : Float). t r i ⊗ x) (same r h))
 
 -- and so they do under a shape that fits
-abbrev pub Tall : ℕ → Shape → Type 0
-Tall dof s = (rows cols : ℕ) → s ≡ Sized rows cols → rows ≡ dof
+abbrev pub Tall : ℕ → Option Shape → Type 0
+Tall dof s = (rows cols : ℕ) → s ≡ sized rows cols → rows ≡ dof
 
-pub under_same : (dof : ℕ) (s : Shape) (t : ℕ → ℕ → ℕ → Float) (e e' : ℕ → ℕ → Float) → Tall dof s → ((i j : ℕ) → i < dof → j < dof → e i j ≡ e' i j)
+pub under_same : (dof : ℕ) (s : Option Shape) (t : ℕ → ℕ → ℕ → Float) (e e' : ℕ → ℕ → Float) → Tall dof s → ((i j : ℕ) → i < dof → j < dof → e i j ≡ e' i j)
     → (i j : ℕ) → i < width_under s dof → j < width_under s dof → block_under s t e i j ≡ block_under s t e' i j
-under_same dof Absent t e e' tall same i j li lj = same i j li lj
-under_same dof (Sized rows cols) t e e' tall same i j li lj = block-through rows (t rows) e e' (λ a b la lb. same a b (rw (tall rows cols refl) at la) (rw (tall rows cols refl) at lb)) i j
+under_same dof None t e e' tall same i j li lj = same i j li lj
+under_same dof (Some s) t e e' tall same i j li lj = block-through s.rows (t s.rows) e e' (λ a b la lb. same a b (rw (tall s.rows s.cols refl) at la) (rw (tall s.rows s.cols refl) at lb)) i j
 
-pub under_run : (dof : ℕ) (s : Shape) (t : ℕ → ℕ → ℕ → Float) (v v' : ℕ → Float) → Tall dof s → ((i : ℕ) → i < dof → v i ≡ v' i)
+pub under_run : (dof : ℕ) (s : Option Shape) (t : ℕ → ℕ → ℕ → Float) (v v' : ℕ → Float) → Tall dof s → ((i : ℕ) → i < dof → v i ≡ v' i)
     → (i : ℕ) → i < width_under s dof → vector_under s t v i ≡ vector_under s t v' i
-under_run dof Absent t v v' tall same i li = same i li
-under_run dof (Sized rows cols) t v v' tall same i li = vector_through rows (t rows) v v' (λ a la. same a (rw (tall rows cols refl) at la)) i
+under_run dof None t v v' tall same i li = same i li
+under_run dof (Some s) t v v' tall same i li = vector_through s.rows (t s.rows) v v' (λ a la. same a (rw (tall s.rows s.cols refl) at la)) i
 
 -- the numbers of a transform of dof rows are there
 pub there_room : (dof rows cols from n : ℕ) → dof ≤ 9 → cols ≤ 9 → rows ≡ dof → from + ROOM ≤ n → from + cols * rows ≤ n
