@@ -4,7 +4,7 @@
 ghost use Rattle.std.specs.Prelude.{◌≡◌, ◌+◌, ◌≤◌, length};
 ghost use Rattle.sums.specs.Sum.{◌⊗◌, sum_to, off};
 ghost use Rattle.lists.specs.Part.{◌!◌};
-ghost use Rattle.plane.specs.Plane.{PLANE, plane_of, plane_new};
+ghost use Rattle.plane.specs.Plane.{plane_of, plane_list, plane_new};
 ghost use Rattle.plane.specs.Sigma.{jacobian, point_term, plane_term, variance, deviation};
 
 use refusals::Refusal;
@@ -23,18 +23,6 @@ pub const PLANE: usize = 4;
 const LEAST_NORM: f64 = 1e-12;
 
 impl Plane {
-    // Of a list of PLANE numbers: normal, then offset.
-    pub fn from_list(l: &[f64]) -> Plane
-        requires { length l.now ≡ PLANE }
-        ensures { result ≡ plane_of l.now }
-    {
-        let normal = [l[0], l[1], l[2]];
-        Plane {
-            normal,
-            offset: l[3],
-        }
-    }
-
     // The plane of a normal of any length: normal and offset are divided by it.
     pub fn new(normal: [f64; 3], offset: f64) -> Result<Plane, Refusal>
         ensures { result ≡ plane_new normal offset }
@@ -47,6 +35,27 @@ impl Plane {
             normal: linear::divided3(normal, norm),
             offset: offset / norm,
         })
+    }
+}
+
+// Of its numbers as a list: normal, then offset.
+impl From<[f64; PLANE]> for Plane {
+    ghost from_gives = { λ l p. p ≡ plane_of l };
+
+    fn from(l: [f64; PLANE]) -> Plane {
+        Plane {
+            normal: [l[0], l[1], l[2]],
+            offset: l[3],
+        }
+    }
+}
+
+impl From<Plane> for [f64; PLANE] {
+    ghost from_gives = { λ p l. l ≡ plane_list p };
+
+    fn from(p: Plane) -> [f64; PLANE] {
+        let n = p.normal;
+        [n[0], n[1], n[2], p.offset]
     }
 }
 
@@ -81,8 +90,7 @@ fn dot6(j: [f64; 6], c: &[f64], at: usize) -> f64
 }
 
 // jᵀ c j, from the left.
-fn plane_term(j: [f64; 6], c: &[f64]) -> f64
-    requires { length c.now ≡ 36 }
+fn plane_term(j: [f64; 6], c: &[f64; 36]) -> f64
     ensures { result ≡ plane_term j c.now }
 {
     let q = [
@@ -111,12 +119,11 @@ fn deviation(x: f64) -> Result<f64, Refusal>
 pub fn point_to_plane_sigma(
     plane: Plane,
     centroid: [f64; 3],
-    plane_covariance: &[f64],
+    plane_covariance: &[f64; 36],
     point_covariance: [f64; 9],
     world: [f64; 3],
     d_world_d_point: [f64; 9],
 ) -> Result<f64, Refusal>
-    requires { length plane_covariance.now ≡ 36 }
     ensures { result ≡ deviation (variance plane.normal centroid plane_covariance.now point_covariance world d_world_d_point) }
 {
     let n = plane.normal;

@@ -1,12 +1,8 @@
 -- The calls of a host on planes as lists: why each is refused, and what it leaves. Definitions only.
-use Rattle.std.specs.Prelude.{ℕ, ◌≡◌, List, [], ◌∷◌, length, Float}
+use Rattle.std.specs.Prelude.{ℕ, List, [], ◌∷◌, length, Float}
 use Rattle.refusals.specs.Refusal.{◌when◌, first_of, wrong_length, Answered}
 use Rattle.square_root.specs.Computed.{square_root}
 use Rattle.plane.specs.Plane.{PLANE, plane_of, plane_list, normal_reasons, unit_plane}
-use Rattle.plane.specs.declared.PlaneAnswer.{PlaneAnswer}
-use Rattle.plane.specs.declared.PlaneAnswer.TheVariants as plane
-use Rattle.plane.specs.declared.Sigma.{Sigma}
-use Rattle.plane.specs.declared.Sigma.TheVariants as deviation
 use Rattle.plane.specs.Sigma.{variance, variance_reasons}
 
 -- plane_new: a normal of three numbers, and room for a plane
@@ -15,19 +11,6 @@ new_refusal n out = first_of (3 when wrong_length ((length n, 3) ∷ (length out
 
 unfoldable pub new_plane : List Float → Float → List Float
 new_plane n d = plane_list (unit_plane n d)
-
--- an answer as document 01's number, and as what it leaves where the old content was
-abbrev pub told_plane : PlaneAnswer → List Float → ℕ × List Float
-told_plane (plane.Refused k) old = (k, old)
-told_plane (plane.Made x y z offset) old = (0, x ∷ y ∷ z ∷ offset ∷ [])
-
-abbrev pub told_sigma : Sigma → Float → ℕ × Float
-told_sigma (deviation.Refused k) old = (k, old)
-told_sigma (deviation.Value x) old = (0, x)
-
-pub record Told {A : Type 0} (answer : ℕ × A) (number : ℕ) (left : A) : Type 0 where
-  pub number_is : number ≡ answer.0
-  pub left_is : left ≡ answer.1
 
 -- what point_to_plane_sigma is handed
 pub record Inputs : Type 0 where

@@ -1,23 +1,31 @@
--- `plane_lists::plane_new` meets its contract: the lengths, then what is told of the answer. Assumes nothing.
+-- `plane_lists::plane_new` meets its contract: the lengths, then the answer of `plane::Plane::new`. Assumes nothing.
+use mathlib.Core.Path.{◌≡◌, sym, ◌∙◌}
+use borrow.Author.Rules.{rules}
 use borrow.Author.Tests.{eq-eqb, ne_eqb}
-use Rattle.refusals.specs.Refusal.{first_of, refused}
-use Rattle.plane.specs.Plane.{normal_reasons, unit_plane, plane_new}
-use Rattle.plane_lists.specs.Calls.{new_refusal, new_plane}
-use Rattle.plane_lists.proofs.Laws.{plane-told, answered}
+use Rattle.std.specs.Prelude.{Err}
+use Rattle.refusals.specs.Refusal.{refused}
+use Rattle.plane_lists.specs.Calls.{new_refusal}
+use Rattle.plane_lists.proofs.Laws.{new-refused, new-made}
 use Rattle.plane_lists.proofs.plane_new.Goals as goal
 
-pub returns-then-normal-ne3 : goal.returns-then-normal-ne3
+pub returns-in_default : goal.returns-in_default
 unfolding new_refusal
-returns-then-normal-ne3 c = refused (rw (ne_eqb _ _ c.if-normal-ne3.true))
+returns-in_default c = refused (rw (ne_eqb _ _ c.in_default.ensures.cases))
 
 pub returns-then-plane-ne-PLANE : goal.returns-then-plane-ne-PLANE
 unfolding new_refusal
-returns-then-plane-ne-PLANE c = refused (rw (eq-eqb _ _ c.if-normal-ne3.false, ne_eqb _ _ c.if-plane-ne-PLANE.true))
+returns-then-plane-ne-PLANE c =
+    refused (rw (eq-eqb _ _ c.in-Some.ensures.cases.long, ne_eqb _ _ c.if-plane-ne-PLANE.true))
+
+pub returns-in_err-new : goal.returns-in_err-new
+returns-in_err-new c =
+    let n = c.in-Some.ensures.cases in
+    let e : c.from_residual.result ≡ Err c.in_err-new.field-0.0 = search rules in
+    rw e
+    (new-refused _ _ _ (eq-eqb _ _ n.long) (eq-eqb _ _ c.if-plane-ne-PLANE.false) _ (rw n.same at (sym c.in_err-new.was ∙ c.new.ensures)))
 
 pub returns : goal.returns
-unfolding new_refusal new_plane plane_new
 returns c =
-    let given = c.args in
-    let answer = rw (c.new.ensures, c.three.ensures) at c.told_plane.ensures in
-    rw (eq-eqb _ _ c.if-normal-ne3.false, eq-eqb _ _ c.if-plane-ne-PLANE.false)
-    (answered (plane-told (first_of (normal_reasons given.normal.now)) (unit_plane given.normal.now given.offset) given.plane.now) answer)
+    let n = c.in-Some.ensures.cases in
+    rw (c.copy_from_slice.ensures.after, c.into-numbers.ensures)
+    (new-made _ _ _ (eq-eqb _ _ n.long) (eq-eqb _ _ c.if-plane-ne-PLANE.false) _ (rw n.same at (sym c.in_ok-new.was ∙ c.new.ensures)))
