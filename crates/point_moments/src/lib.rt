@@ -73,6 +73,7 @@ impl PointMoments {
         lists::store(l, &r);
     }
 
+    #[tactic(auto, unfolding(crate::specs::Moments::with_point))]
     pub fn with_point(self, p: [f64; 3]) -> PointMoments
         ensures { result ≡ with_point self p }
     {
@@ -113,6 +114,7 @@ impl PointMoments {
     }
 
     // Of the points a·p + b.
+    #[tactic(auto, unfolding(crate::specs::Moments::transformed))]
     pub fn transformed(self, a: [f64; 9], b: [f64; 3]) -> PointMoments
         ensures { result ≡ transformed self a b }
     {
@@ -127,6 +129,7 @@ impl PointMoments {
 }
 
 // Whether a list of points is taken: it is whole points, and at most MOST_POINTS.
+#[tactic(auto, unfolding(crate::specs::Moments::point_reasons))]
 pub fn points_refusal(points: &[f64]) -> Result<(), Refusal>
     ensures { number result ≡ first_of (point_reasons points.now) }
 {

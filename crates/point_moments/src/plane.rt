@@ -16,6 +16,7 @@ pub struct MomentsPlane {
 
 impl PointMoments {
     // None for fewer than three points or no unique normal. A count that is not below 3 has a mean: `has_mean` of the proofs.
+    #[tactic(auto, unfolding(crate::specs::Plane::plane_of, decomposition::specs::Gaps::moments_plane))]
     pub fn plane(self, decomposition: &[u64]) -> Option<MomentsPlane>
         requires { length decomposition.now ≡ DECOMPOSITION }
         ensures { result ≡ plane_of self decomposition.now }

@@ -39,6 +39,7 @@ impl PointMoments {
     }
 
     // The set as a frame of the factor takes it. Only of a set that has a mean: a build tests that before.
+    #[tactic(auto, unfolding(crate::specs::Scatter::centred))]
     pub fn centred(self) -> Centred
         requires { has_mean self ≡ true }
         ensures { result ≡ centred self }
