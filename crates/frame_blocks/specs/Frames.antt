@@ -1,7 +1,7 @@
 -- All frames of a call under a plane: what each of them adds where, and what they cost with the fixed set. Assumes nothing.
 use Prim.Native.Nat.{ℕ, zero, suc, ◌+◌, ◌*◌, ◌/◌, ◌%◌, ◌≤◌, ◌<◌}
 use Rattle.std.proofs.Common.{add-one, sym, ◌∙◌}
-use Rattle.std.specs.Prelude.{◌≡◌, false, length}
+use Rattle.std.specs.Prelude.{◌≡◌, false, length, Option, Some, None}
 use Rattle.std.proofs.Math.Path.{refl, ap, ap₂}
 use native.Mathlib.Omega.{arith}
 use mathlib.Core.List.{List, [], ◌∷◌, ◌++◌}
@@ -13,11 +13,9 @@ use Rattle.sums.specs.Laws.{get_or-tab, sum_from-same, sum_from_parts}
 use Rattle.lists.specs.Part.{◌!◌}
 use Rattle.terms.specs.Terms.{add_all, upto}
 use Rattle.terms.proofs.Laws.{upto-none, upto-joined}
-use Rattle.normal_blocks.specs.declared.Place.{Place}
 use Rattle.normal_blocks.specs.Map.{lookup, exceeds, some_exceeds}
 use Rattle.normal_blocks.proofs.Laws.{lookup-past, fits}
 use Rattle.normal_blocks.specs.TargetLaws.{hessian_mapped, gradient_mapped, hessian_unmapped, gradient_unmapped, hessian_same, gradient_same}
-use Rattle.normal_blocks.specs.declared.Place.TheVariants.{At, Unmapped}
 use Rattle.normal_blocks.specs.Target.{hessian_at, gradient_at}
 use Rattle.call_lists.specs.Frames.{Frames, frame_hessian, frame_gradient}
 use Rattle.call_lists.specs.FrameLaws.{hessian_more, gradient_more}
@@ -57,12 +55,12 @@ pub record RunReady (cells order dof : ℕ) (frames actions : List Float) (map :
   pub fits : (k : ℕ) → k < count → exceeds order dof (lookup map k) ≡ false
 
 -- one frame with a pull, at the place p: what it adds there
-pub record FrameAdded (x : List Float) (f : Centred) (n : List Float) (s : Pull) (weight : Float) (order dof : ℕ) (p : Place) (h h' g g' : List Float) : Type 0 where
+pub record FrameAdded (x : List Float) (f : Centred) (n : List Float) (s : Pull) (weight : Float) (order dof : ℕ) (p : Option ℕ) (h h' g g' : List Float) : Type 0 where
   pub hessian : h' ≡ add_all h (hessian_at order dof p (block_entry x f n weight))
   pub gradient : g' ≡ add_all g (gradient_at dof p (pulled_entry x f n s.turn s.shift weight))
 
 -- the k-th part of a batch, at the place p
-pub record PartAdded (order : ℕ) (p : Place) (cells : List Float) (k : ℕ) (h h' g g' : List Float) : Type 0 where
+pub record PartAdded (order : ℕ) (p : Option ℕ) (cells : List Float) (k : ℕ) (h h' g g' : List Float) : Type 0 where
   pub hessian : h' ≡ add_all h (hessian_at order 3 p (block_in cells k))
   pub gradient : g' ≡ add_all g (gradient_at 3 p (vector_in cells k))
 
@@ -122,19 +120,24 @@ AllAdded order dof frames fixed actions map n offset weight r h h' g g' =
 
 -- ---- laws
 
+-- a place that is not an offset is none
+pub nowhere : (p : Option ℕ) → ((at : ℕ) → p ≡ Some at → ⊥) → p ≡ None
+nowhere (Some at) h = absurd (h at refl)
+nowhere None h = refl
+
 -- one frame at an offset, and one that goes nowhere
-module _ (x : List Float) (f : Centred) (n : List Float) (s : Pull) (weight : Float) (order dof : ℕ) (p : Place) where
-  pub frame_mapped : (at : ℕ) (h h' g g' : List Float) → p ≡ At at → Added order at dof (block_entry x f n weight) (pulled_entry x f n s.turn s.shift weight) h h' g g'
+module _ (x : List Float) (f : Centred) (n : List Float) (s : Pull) (weight : Float) (order dof : ℕ) (p : Option ℕ) where
+  pub frame_mapped : (at : ℕ) (h h' g g' : List Float) → p ≡ Some at → Added order at dof (block_entry x f n weight) (pulled_entry x f n s.turn s.shift weight) h h' g g'
       → FrameAdded x f n s weight order dof p h h' g g'
   frame_mapped at h h' g g' mapped a = record {
     hessian = hessian_mapped dof p at mapped order (block_entry x f n weight) h h' a.hessian;
     gradient = gradient_mapped dof p at mapped (pulled_entry x f n s.turn s.shift weight) g g' a.gradient;
   }
 
-  pub frame_unmapped : (h g : List Float) → p ≡ Unmapped → FrameAdded x f n s weight order dof p h h g g
-  frame_unmapped h g nowhere = record {
-    hessian = hessian_unmapped dof p nowhere order (block_entry x f n weight) h;
-    gradient = gradient_unmapped dof p nowhere (pulled_entry x f n s.turn s.shift weight) g;
+  pub frame_unmapped : (h g : List Float) → p ≡ None → FrameAdded x f n s weight order dof p h h g g
+  frame_unmapped h g unmapped = record {
+    hessian = hessian_unmapped dof p unmapped order (block_entry x f n weight) h;
+    gradient = gradient_unmapped dof p unmapped (pulled_entry x f n s.turn s.shift weight) g;
   }
 
 -- a loop over frames: before the first, one more, and a batch after those before it
@@ -142,7 +145,7 @@ module _ (order : ℕ) (f : Frames) (costs : ℕ → Float) where
   pub first-none : (s : Float) (h g : List Float) → FirstAdded order f costs 0 s s h h g g
   first-none s h g = record { cost = refl; hessian = upto-none h _; gradient = upto-none g _ }
 
-  pub first_more : (k : ℕ) (p : Place) (e : ℕ → ℕ → Float) (v : ℕ → Float) (x s r : Float) (h h' h'' g g' g'' : List Float) → p ≡ f.layout.place k
+  pub first_more : (k : ℕ) (p : Option ℕ) (e : ℕ → ℕ → Float) (v : ℕ → Float) (x s r : Float) (h h' h'' g g' g'' : List Float) → p ≡ f.layout.place k
       → ((i j : ℕ) → i < f.layout.width k → j < f.layout.width k → e i j ≡ f.block k i j) → ((i : ℕ) → i < f.layout.width k → v i ≡ f.vector k i) → x ≡ costs k
       → h'' ≡ add_all h' (hessian_at order (f.layout.width k) p e) → g'' ≡ add_all g' (gradient_at (f.layout.width k) p v)
       → FirstAdded order f costs k s r h h' g g' → FirstAdded order f costs (k + 1) s (r ⊕ x) h h'' g g''
@@ -184,7 +187,7 @@ module _ (order dof : ℕ) (frames actions : List Float) (map : List ℕ) where
 
   -- what a run that is ready has at each frame, the two slices being as long as they were
   module _ (cells count : ℕ) (ready : RunReady cells order dof frames actions map count) where
-    pub run_fits : (rows k : ℕ) (p : Place) → rows ≡ order → p ≡ lookup map k → k < count → exceeds rows dof p ≡ false
+    pub run_fits : (rows k : ℕ) (p : Option ℕ) → rows ≡ order → p ≡ lookup map k → k < count → exceeds rows dof p ≡ false
     run_fits rows k p e at l = rw (e, at) (ready.fits k l)
 
     pub run_held : (k : ℕ) → k < count → Held frames actions k
@@ -209,9 +212,9 @@ module _ (order dof : ℕ) (frames actions : List Float) (map : List ℕ) where
     run_unmapped zero h g e = first-none order _ _ zero_f h g
     run_unmapped (suc k) h g e =
         let all = frames_under dof frames actions map n offset weight in
-        let nowhere : lookup map k ≡ Unmapped = sym (lookup-past map k (omega arith)) in
+        let past : lookup map k ≡ None = sym (lookup-past map k (omega arith)) in
         rw (add-one k) at (first_more order all _ k (lookup map k) (all.block k) (all.vector k) _ zero_f _ h h h g g g refl (λ i j li lj. refl) (λ i li. refl) refl
-        (hessian_unmapped dof (lookup map k) nowhere order (all.block k) h) (gradient_unmapped dof (lookup map k) nowhere (all.vector k) g) (run_unmapped k h g e))
+        (hessian_unmapped dof (lookup map k) past order (all.block k) h) (gradient_unmapped dof (lookup map k) past (all.vector k) g) (run_unmapped k h g e))
 
     pub all_alone : (fixed : List Float) (count : ℕ) (s r : Float) (h g : List Float) → count ≡ frame_count frames → length map ≡ 0
         → s ≡ sum_from_zero count (cost_at frames actions n offset weight) → r ≡ and_fixed fixed (λ f. fixed_cost f n offset weight) s
@@ -220,7 +223,7 @@ module _ (order dof : ℕ) (frames actions : List Float) (map : List ℕ) where
 
   -- a batch by its pulls: one frame more, and the call's frames with it
   module _ (n : List Float) (weight : Float) (cells : List Float) (from size : ℕ) where
-    pub batch_more : (k rows : ℕ) (p : Place) (q : Pull) (s r : Float) (h h' h'' g g' g'' : List Float) → rows ≡ order → p ≡ lookup map (from + k) → q ≡ pull_in cells k
+    pub batch_more : (k rows : ℕ) (p : Option ℕ) (q : Pull) (s r : Float) (h h' h'' g g' g'' : List Float) → rows ≡ order → p ≡ lookup map (from + k) → q ≡ pull_in cells k
         → FrameAdded (action_at actions (from + k)) (frame_at frames (from + k)) n q weight rows dof p h' h'' g' g''
         → FirstAdded order (frames_in dof frames actions map n weight cells from size) (λ k. (pull_in cells k).cost) k s r h h' g g'
         → FirstAdded order (frames_in dof frames actions map n weight cells from size) (λ k. (pull_in cells k).cost) (k + 1) s (r ⊕ q.cost) h h'' g g''
@@ -266,23 +269,23 @@ module _ (x : List Float) (f : Centred) (n : List Float) (offset weight : Float)
   unfolding part_of
   part_cost = refl
 
-module _ (order : ℕ) (p : Place) (cells : List Float) (k : ℕ) where
+module _ (order : ℕ) (p : Option ℕ) (cells : List Float) (k : ℕ) where
   -- a part at an offset, and one that goes nowhere
-  pub part_mapped : (at : ℕ) (h h' g g' : List Float) → p ≡ At at → Added order at 3 (block_in cells k) (vector_in cells k) h h' g g' → PartAdded order p cells k h h' g g'
+  pub part_mapped : (at : ℕ) (h h' g g' : List Float) → p ≡ Some at → Added order at 3 (block_in cells k) (vector_in cells k) h h' g g' → PartAdded order p cells k h h' g g'
   part_mapped at h h' g g' mapped a = record {
     hessian = hessian_mapped 3 p at mapped order (block_in cells k) h h' a.hessian;
     gradient = gradient_mapped 3 p at mapped (vector_in cells k) g g' a.gradient;
   }
 
-  pub part_unmapped : (h g : List Float) → p ≡ Unmapped → PartAdded order p cells k h h g g
-  part_unmapped h g nowhere = record {
-    hessian = hessian_unmapped 3 p nowhere order (block_in cells k) h;
-    gradient = gradient_unmapped 3 p nowhere (vector_in cells k) g;
+  pub part_unmapped : (h g : List Float) → p ≡ None → PartAdded order p cells k h h g g
+  part_unmapped h g unmapped = record {
+    hessian = hessian_unmapped 3 p unmapped order (block_in cells k) h;
+    gradient = gradient_unmapped 3 p unmapped (vector_in cells k) g;
   }
 
 -- a batch by its parts: one frame more, and the call's frames with it
 module _ (order : ℕ) (map : List ℕ) (cells : List Float) (from size : ℕ) where
-  pub parts_more : (k : ℕ) (p : Place) (s r v : Float) (h h' h'' g g' g'' : List Float) → p ≡ lookup map (from + k) → v ≡ cost_in cells k
+  pub parts_more : (k : ℕ) (p : Option ℕ) (s r v : Float) (h h' h'' g g' g'' : List Float) → p ≡ lookup map (from + k) → v ≡ cost_in cells k
       → PartAdded order p cells k h' h'' g' g'' → FirstAdded order (parts_in map cells from size) (cost_in cells) k s r h h' g g'
       → FirstAdded order (parts_in map cells from size) (cost_in cells) (k + 1) s (r ⊕ v) h h'' g g''
   parts_more k p s r v h h' h'' g g' g'' ep ev a before =

@@ -12,14 +12,14 @@ ghost use Rattle.frame_blocks.specs.Frames.{Ready, RunReady, FrameAdded, BatchAd
 
 use derivative::ACTION;
 use frame_cost::Pull;
-use normal_blocks::Place;
+use plane::Plane;
 use point_moments::scatter::{CENTRED, Centred};
 
 // One frame: its block and vector are added if it has a place.
 fn add_frame(
     h: &mut [f64],
     g: &mut [f64],
-    p: Place,
+    p: Option<usize>,
     dof: usize,
     frames: &[f64],
     actions: &[f64],
@@ -33,13 +33,10 @@ fn add_frame(
 {
     let n = g.len();
     let turn = pull.turn;
-    match p {
-        Place::At(at) => {
-            frame_segment::add_at(
-                h, g, n, at, dof, frames, actions, k, normal, turn, pull.shift, weight,
-            );
-        }
-        Place::Unmapped => {}
+    if let Some(at) = p {
+        frame_segment::add_at(
+            h, g, n, at, dof, frames, actions, k, normal, turn, pull.shift, weight,
+        );
     }
 }
 
@@ -48,7 +45,7 @@ const BATCH: usize = 4;
 
 // Puts a pull into the pulls of a batch as that of its k-th frame.
 fn put_pull(pulls: &mut [f64; 20], k: usize, p: Pull)
-    requires { (k < BATCH) × (length pulls.old ≡ PULLS) }
+    requires { k < BATCH }
     ensures { pulls.new ≡ with_pull pulls.old k p }
 {
     let t = p.turn;
@@ -79,22 +76,17 @@ fn fill_pulls(
     actions: &[f64],
     from: usize,
     size: usize,
-    normal: [f64; 3],
-    offset: f64,
+    plane: Plane,
     weight: f64,
     pulls: &mut [f64; 20],
 )
-    requires { (size ≤ BATCH) × (length pulls.old ≡ PULLS) × (CENTRED * (from + size) ≤ length frames.now) × (action_size * (from + size) ≤ length actions.now) }
-    ensures { Pulled frames.now actions.now normal offset weight from size pulls.new }
+    requires { (size ≤ BATCH) × (CENTRED * (from + size) ≤ length frames.now) × (action_size * (from + size) ≤ length actions.now) }
+    ensures { Pulled frames.now actions.now plane.normal plane.offset weight from size pulls.new }
 {
     for k in 0..size {
         let f = Centred::from_list(plane_fit::whole_at(frames, CENTRED, from + k));
         let x = plane_fit::whole_at(actions, ACTION, from + k);
-        put_pull(
-            pulls,
-            k,
-            frame_cost::frame_pull(x, f, normal, offset, weight),
-        );
+        put_pull(pulls, k, frame_cost::frame_pull(x, f, plane, weight));
     }
 }
 
@@ -144,25 +136,33 @@ fn add_frames(
     frames: &[f64],
     actions: &[f64],
     map: &[u32],
-    normal: [f64; 3],
-    offset: f64,
+    plane: Plane,
     weight: f64,
     count: usize,
     start: f64,
 ) -> f64
     requires { RunReady (length h.old) (length g.old) dof frames.now actions.now map.now count }
-    ensures { RunAdded (length g.old) dof frames.now actions.now map.now normal offset weight count start result h.old h.new g.old g.new }
+    ensures { RunAdded (length g.old) dof frames.now actions.now map.now plane.normal plane.offset weight count start result h.old h.new g.old g.new }
 {
     let mut sum = start;
     let mut p = [0.0; 20];
-    let mut from = 0;
-    while from < count {
+    for from in (0..count).step_by(BATCH) {
         let size = lists::batch_size(count, from, BATCH);
-        fill_pulls(frames, actions, from, size, normal, offset, weight, &mut p);
+        fill_pulls(frames, actions, from, size, plane, weight, &mut p);
         sum = add_batch(
-            h, g, dof, frames, actions, map, from, size, normal, weight, &p, sum,
+            h,
+            g,
+            dof,
+            frames,
+            actions,
+            map,
+            from,
+            size,
+            plane.normal,
+            weight,
+            &p,
+            sum,
         );
-        from = from + size;
     }
     sum
 }
@@ -183,11 +183,8 @@ fn add_parts(
     let n = g.len();
     let mut s = sum;
     for k in 0..size {
-        match normal_blocks::lookup(map, from + k) {
-            Place::At(at) => {
-                frame_parts::add_part(h, g, n, at, cells, k);
-            }
-            Place::Unmapped => {}
+        if let Some(at) = normal_blocks::lookup(map, from + k) {
+            frame_parts::add_part(h, g, n, at, cells, k);
         }
         s = s + frame_parts::cost_at(cells, k);
     }
@@ -201,40 +198,31 @@ fn add_threes(
     frames: &[f64],
     actions: &[f64],
     map: &[u32],
-    normal: [f64; 3],
-    offset: f64,
+    plane: Plane,
     weight: f64,
     count: usize,
     start: f64,
 ) -> f64
     requires { RunReady (length h.old) (length g.old) 3 frames.now actions.now map.now count }
-    ensures { RunAdded (length g.old) 3 frames.now actions.now map.now normal offset weight count start result h.old h.new g.old g.new }
+    ensures { RunAdded (length g.old) 3 frames.now actions.now map.now plane.normal plane.offset weight count start result h.old h.new g.old g.new }
 {
     let mut s = start;
     let mut c = [0.0; 52];
-    let mut from = 0;
-    while from < count {
+    for from in (0..count).step_by(frame_parts::BATCH) {
         let size = lists::batch_size(count, from, frame_parts::BATCH);
-        frame_parts::fill_parts(frames, actions, from, size, normal, offset, weight, &mut c);
+        frame_parts::fill_parts(frames, actions, from, size, plane, weight, &mut c);
         s = add_parts(h, g, map, from, size, &c, s);
-        from = from + size;
     }
     s
 }
 
 // Whether each of the frames has a word in the map, and none says that its frame is unmapped. Either way to add them is right: this one tells which is faster.
 fn all_mapped(map: &[u32], count: usize) -> bool {
-    if map.len() < count {
-        return false;
-    }
-    let mut bits = 0;
-    for k in 0..count {
-        bits = bits | map[k];
-    }
-    bits < 0x4000_0000
+    map.len() >= count && map[..count].iter().fold(0, |bits, word| bits | *word) < 0x4000_0000
 }
 
-// The first `count` frames of the lists, added as they are: the sum with their costs is the answer.
+// The first `count` frames of the lists, added as they are: the sum with their costs is the answer. Inlined, so that a caller makes one call less.
+#[inline(always)]
 pub fn add_run(
     h: &mut [f64],
     g: &mut [f64],
@@ -242,27 +230,22 @@ pub fn add_run(
     frames: &[f64],
     actions: &[f64],
     map: &[u32],
-    normal: [f64; 3],
-    offset: f64,
+    plane: Plane,
     weight: f64,
     count: usize,
     start: f64,
 ) -> f64
     requires { RunReady (length h.old) (length g.old) dof frames.now actions.now map.now count }
-    ensures { RunAdded (length g.old) dof frames.now actions.now map.now normal offset weight count start result h.old h.new g.old g.new }
+    ensures { RunAdded (length g.old) dof frames.now actions.now map.now plane.normal plane.offset weight count start result h.old h.new g.old g.new }
 {
     if dof == 3 && all_mapped(map, count) {
-        return add_threes(
-            h, g, frames, actions, map, normal, offset, weight, count, start,
-        );
+        return add_threes(h, g, frames, actions, map, plane, weight, count, start);
     }
-    add_frames(
-        h, g, dof, frames, actions, map, normal, offset, weight, count, start,
-    )
+    add_frames(h, g, dof, frames, actions, map, plane, weight, count, start)
 }
 
 // All frames of a call under a plane: each one's block and vector are added where the map says, and the cost, with the fixed set's, is the answer.
-// Without a map the costs are summed in a loop of their own, which is faster; so is choosing here and not in `add_run`, one call less.
+// Without a map the costs are summed in a loop of their own, which is faster.
 pub fn add_all(
     h: &mut [f64],
     g: &mut [f64],
@@ -271,26 +254,17 @@ pub fn add_all(
     fixed: &[f64],
     actions: &[f64],
     map: &[u32],
-    normal: [f64; 3],
-    offset: f64,
+    plane: Plane,
     weight: f64,
 ) -> f64
     requires { Ready (length h.old) (length g.old) dof frames.now actions.now map.now × ((length fixed.now ≡ 0) ⊎ (length fixed.now ≡ CENTRED)) }
-    ensures { AllAdded (length g.old) dof frames.now fixed.now actions.now map.now normal offset weight result h.old h.new g.old g.new }
+    ensures { AllAdded (length g.old) dof frames.now fixed.now actions.now map.now plane.normal plane.offset weight result h.old h.new g.old g.new }
 {
     let count = frames.len() / CENTRED;
     if map.len() == 0 {
-        let alone = frame_cost::frames_cost(frames, actions, normal, offset, weight, count);
-        return frame_cost::with_fixed(alone, fixed, normal, offset, weight);
+        let alone = frame_cost::frames_cost(frames, actions, plane, weight, count);
+        return frame_cost::with_fixed(alone, fixed, plane, weight);
     }
-    if dof == 3 && all_mapped(map, count) {
-        let threes = add_threes(
-            h, g, frames, actions, map, normal, offset, weight, count, 0.0,
-        );
-        return frame_cost::with_fixed(threes, fixed, normal, offset, weight);
-    }
-    let sum = add_frames(
-        h, g, dof, frames, actions, map, normal, offset, weight, count, 0.0,
-    );
-    frame_cost::with_fixed(sum, fixed, normal, offset, weight)
+    let sum = add_run(h, g, dof, frames, actions, map, plane, weight, count, 0.0);
+    frame_cost::with_fixed(sum, fixed, plane, weight)
 }

@@ -1,50 +1,50 @@
 -- `frame_blocks::add_frames` meets its contract: before each batch the frames up to it are added and their costs summed. Assumes nothing.
 use mathlib.Core.Path.{◌≡◌, refl, ◌∙◌}
+use Prim.Native.Nat.{◌+◌}
 use native.Mathlib.Omega.{arith}
 use borrow.Author.Rules.{rules}
-use Rattle.lists.specs.Batch.{batch_fits}
-use Rattle.frame_blocks.specs.Frames.{first-none, run_upto, batch_added}
+use lib.ListN.{length}
+use Rattle.frame_blocks.specs.Frames.{RunAdded, first-none, run_upto, batch_added}
 use Rattle.frame_blocks.proofs.add_frames.Goals as goal
+use Rattle.frame_blocks.proofs.add_frames.Goals.{After-add_batch-sum}
 
 pub loop-from-init : goal.loop-from-init
-loop-from-init c = (search rules, refl, refl, refl, first-none _ _ _ _ _ _)
+loop-from-init c = (search rules, refl, refl, first-none _ _ _ _ _ _)
 
 pub fill_pulls-requires : goal.fill_pulls-requires
 fill_pulls-requires c =
-    let l = c.loop-from in
     let ready = c.requires in
-    let fits = batch_fits c.batch_size-size.ensures c.loop-from-test.true (omega arith) in
-    (fits.1, l.invariant.3, omega (arith, ready.held), omega (arith, ready.acted))
+    (search rules, omega (arith, ready.held), omega (arith, ready.acted))
 
 pub add_batch-sum-requires : goal.add_batch-sum-requires
 add_batch-sum-requires c =
     let l = c.loop-from in
-    let fits = batch_fits c.batch_size-size.ensures c.loop-from-test.true (omega arith) in
-    (fits.1, run_upto _ _ _ _ _ _ _ c.requires _ _ _ l.invariant.1 l.invariant.2 fits.2)
+    (search rules, run_upto _ _ _ _ _ _ _ c.requires _ _ _ l.invariant.1 l.invariant.2 (omega arith))
 
-pub overflow_add-from : goal.overflow_add-from
-overflow_add-from c =
-    let fits = batch_fits c.batch_size-size.ensures c.loop-from-test.true (omega arith) in
-    omega arith
-
-pub loop-from-smaller : goal.loop-from-smaller
-loop-from-smaller c =
-    let fits = batch_fits c.batch_size-size.ensures c.loop-from-test.true (omega arith) in
-    omega arith
+-- the frames of one batch more
+added : (c : After-add_batch-sum) → let l = c.loop-from in let a = c.args in
+    RunAdded (length a.g.now) a.dof a.frames.now a.actions.now a.map.now a.plane.normal a.plane.offset a.weight (l.from + c.batch_size-size.result) a.start c.add_batch-sum.result a.h.now c.add_batch-sum.new.h a.g.now c.add_batch-sum.new.g
+added c =
+    let l = c.loop-from in
+    batch_added _ _ _ _ _ _ _ _ l.from _ _ _ _ l.sum _ _ l.h _ _ l.g _ l.invariant.2 c.fill_pulls.ensures c.add_batch-sum.ensures l.invariant.3
 
 pub loop-from-preserved : goal.loop-from-preserved
 loop-from-preserved c =
     let l = c.loop-from in
-    let fits = batch_fits c.batch_size-size.ensures c.loop-from-test.true (omega arith) in (
-      fits.2,
+    let e : c.batch_size-size.result ≡ 4 = omega arith in (
+      search rules,
       c.add_batch-sum.auto.h ∙ l.invariant.1,
       c.add_batch-sum.auto.g ∙ l.invariant.2,
-      c.fill_pulls.ensures.long,
-      batch_added _ _ _ _ _ _ _ _ l.from _ _ _ _ l.sum _ _ l.h _ _ l.g _ l.invariant.2 c.fill_pulls.ensures c.add_batch-sum.ensures l.invariant.4,
+      rw e at (added (goal.at.loop-from-preserved c).After-add_batch-sum),
     )
 
 pub returns : goal.returns
 returns c =
     let l = c.loop-from in
     let e : l.from ≡ c.args.count = omega arith in
-    rw e at l.invariant.4
+    rw e at l.invariant.3
+
+pub returns-2 : goal.returns-2
+returns-2 c =
+    let e : c.loop-from.from + c.batch_size-size.result ≡ c.args.count = omega arith in
+    rw e at (added (goal.at.returns-2 c).After-add_batch-sum)

@@ -1,13 +1,12 @@
 use Prim.Native.Nat.{◌≤◌, ◌-◌}
 use mathlib.Core.Path.{◌≡◌}
 use lib.ListN.{length}
-use Rattle.frame_blocks.specs.Pulls.{PULLS}
 use Rattle.frame_blocks.specs.Frames.{RunAdded}
 use Rattle.frame_blocks.proofs.add_frames.Given as goal
 
 abbrev pub invariant-loop-from : goal.invariant-loop-from
 invariant-loop-from l =
-    (l.from ≤ l.count) × (length l.h ≡ length l.initial.h) × (length l.g ≡ length l.initial.g) × (length l.p ≡ PULLS) × RunAdded (length l.initial.g) l.dof l.frames l.actions l.map l.normal l.offset l.weight l.from l.start l.sum l.initial.h l.h l.initial.g l.g
+    (l.from ≤ l.count) × (length l.h ≡ length l.initial.h) × (length l.g ≡ length l.initial.g) × RunAdded (length l.initial.g) l.dof l.frames l.actions l.map l.plane.normal l.plane.offset l.weight l.from l.start l.sum l.initial.h l.h l.initial.g l.g
 
 abbrev pub decreases-loop-from : goal.decreases-loop-from
 decreases-loop-from l = l.count - l.from

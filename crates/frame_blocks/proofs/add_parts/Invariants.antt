@@ -1,4 +1,3 @@
-use Prim.Native.Nat.{◌≤◌, ◌-◌}
 use mathlib.Core.Path.{◌≡◌}
 use lib.ListN.{length}
 use Rattle.frame_parts.specs.Parts.{cost_in}
@@ -7,7 +6,4 @@ use Rattle.frame_blocks.proofs.add_parts.Given as goal
 
 abbrev pub invariant-loop-k : goal.invariant-loop-k
 invariant-loop-k l =
-    (l.k ≤ l.size) × (length l.h ≡ length l.initial.h) × (length l.g ≡ length l.initial.g) × FirstAdded (length l.initial.g) (parts_in l.map l.cells l.from l.size) (cost_in l.cells) l.k l.sum l.s l.initial.h l.h l.initial.g l.g
-
-abbrev pub decreases-loop-k : goal.decreases-loop-k
-decreases-loop-k l = l.size - l.k
+    (length l.h ≡ length l.initial.h) × (length l.g ≡ length l.initial.g) × FirstAdded (length l.initial.g) (parts_in l.map l.cells l.from l.size) (cost_in l.cells) l.k l.sum l.s l.initial.h l.h l.initial.g l.g

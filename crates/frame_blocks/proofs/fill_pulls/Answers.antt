@@ -8,7 +8,7 @@ use Rattle.frame_blocks.specs.Pulls.{pull_at, pulled_none, pulled_more}
 use Rattle.frame_blocks.proofs.fill_pulls.Goals as goal
 
 pub loop-k-init : goal.loop-k-init
-loop-k-init c = (search rules, pulled_none _ _ _ _ _ _ _ c.requires.1)
+loop-k-init c = pulled_none _ _ _ _ _ _ _ (search rules)
 
 pub from_list-f-requires : goal.from_list-f-requires
 from_list-f-requires c = rw c.whole_at.ensures (record_length 13 _ _ (omega arith))
@@ -16,20 +16,17 @@ from_list-f-requires c = rw c.whole_at.ensures (record_length 13 _ _ (omega arit
 pub frame_pull-requires : goal.frame_pull-requires
 frame_pull-requires c = rw c.whole_at-x.ensures (record_length 120 _ _ (omega arith))
 
-pub put_pull-requires : goal.put_pull-requires
-put_pull-requires c = (omega arith, c.loop-k.invariant.1.long)
-
 pub loop-k-preserved : goal.loop-k-preserved
 unfolding pull_at
 loop-k-preserved c =
     let l = c.loop-k in
     let a = c.args in
-    let is : c.frame_pull.result ≡ pull_at a.frames.now a.actions.now a.normal a.offset a.weight (a.from + l.k)
+    let is : c.frame_pull.result ≡ pull_at a.frames.now a.actions.now a.plane.normal a.plane.offset a.weight (a.from + l.k)
     = rw (c.frame_pull.ensures, c.whole_at-x.ensures, c.from_list-f.ensures, c.whole_at.ensures) in
-    (search rules, pulled_more _ _ _ _ _ _ (omega (arith, c.requires.0, l.invariant.0)) is c.put_pull.ensures l.invariant.1)
+    pulled_more _ _ _ _ _ _ (omega arith) is c.put_pull.ensures l.invariant
 
 pub returns : goal.returns
 returns c =
     let l = c.loop-k in
     let e : l.k ≡ c.args.size = omega arith in
-    rw e at l.invariant.1
+    rw e at l.invariant
