@@ -46,7 +46,7 @@ fn part_of(x: &[f64], f: Centred, plane: Plane, weight: f64) -> Part
 
 // Puts a part into those of a batch as that of its k-th frame.
 fn put_part(cells: &mut [f64; 52], k: usize, part: Part)
-    requires { (k < BATCH) × (length cells.old ≡ PARTS) }
+    requires { k < BATCH }
     ensures { cells.new ≡ put_beside BATCH PART cells.old k (numbers_of part) }
 {
     let b = part.block;

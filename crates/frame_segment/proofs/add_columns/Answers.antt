@@ -2,14 +2,13 @@
 use Prim.Native.Nat.{◌+◌, ◌*◌, ◌≤◌}
 use mathlib.Core.Path.{◌≡◌, refl, ◌∙◌}
 use native.Mathlib.Omega.{arith}
-use borrow.Author.Rules.{rules}
 use Rattle.terms.proofs.Laws.{column-before}
 use Rattle.frame_segment.specs.Columns.{columns-none, columns_more}
 use Rattle.frame_segment.proofs.add_columns.Goals as goal
 use Rattle.frame_segment.proofs.add_columns.Goals.{In-loop-c}
 
 pub loop-c-init : goal.loop-c-init
-loop-c-init c = (search rules, refl, columns-none _ _ _ _ _ _)
+loop-c-init c = (refl, columns-none _ _ _ _ _ _)
 
 -- the column ends within the Hessian
 inside : (c : In-loop-c) → let s = c.args in (s.at + (s.first + c.loop-c.c)) * s.n + s.n ≤ s.n * s.n
@@ -27,10 +26,10 @@ add_column-requires c = (omega arith, omega arith, omega (arith, inside (goal.at
 pub loop-c-preserved : goal.loop-c-preserved
 loop-c-preserved c =
     let at = c.loop-c in
-    (search rules, c.add_column.auto.h ∙ at.invariant.1, columns_more _ _ _ _ _ at.h _ _ at.c at.invariant.2 c.add_column.ensures)
+    (c.add_column.auto.h ∙ at.invariant.0, columns_more _ _ _ _ _ at.h _ _ at.c at.invariant.1 c.add_column.ensures)
 
 pub returns : goal.returns
 returns c =
     let l = c.loop-c in
     let e : l.c ≡ c.args.many = omega arith in
-    rw e at l.invariant.2
+    rw e at l.invariant.1

@@ -1,4 +1,3 @@
-use Prim.Native.Nat.{◌-◌, ◌≤◌}
 use mathlib.Core.Path.{◌≡◌}
 use lib.ListN.{length}
 use Rattle.terms.specs.Terms.{add_all}
@@ -8,7 +7,4 @@ use Rattle.frame_segment.proofs.add_columns.Given as goal
 
 abbrev pub invariant-loop-c : goal.invariant-loop-c
 invariant-loop-c l =
-    (l.c ≤ l.many) × (length l.h ≡ length l.initial.h) × (l.h ≡ add_all l.initial.h (columns l.n l.at l.width (rows_entry l.r l.count l.weight) l.first l.c))
-
-abbrev pub decreases-loop-c : goal.decreases-loop-c
-decreases-loop-c l = l.many - l.c
+    (length l.h ≡ length l.initial.h) × (l.h ≡ add_all l.initial.h (columns l.n l.at l.width (rows_entry l.r l.count l.weight) l.first l.c))

@@ -1,7 +1,6 @@
 -- `frame_segment::add_vector` meets its contract: after i turns the first i numbers are added. Assumes nothing.
 use mathlib.Core.Path.{refl}
 use native.Mathlib.Omega.{arith}
-use borrow.Author.Rules.{rules}
 use lib.ListN.{length-set}
 use Rattle.terms.proofs.Laws.{upto-none, segment_more, segment_all}
 use Rattle.derivative.specs.Derivative.{combined}
@@ -9,14 +8,14 @@ use Rattle.frame_segment.specs.Steps.{rows_vector}
 use Rattle.frame_segment.proofs.add_vector.Goals as goal
 
 pub loop-i-init : goal.loop-i-init
-loop-i-init c = (search rules, refl, upto-none _ _)
+loop-i-init c = (refl, upto-none _ _)
 
 pub loop-i-preserved : goal.loop-i-preserved
 unfolding rows_vector combined
 loop-i-preserved c =
     let at = c.loop-i in
-    (search rules, simp length-set at.invariant.1, segment_more _ _ _ _ at.i _ at.invariant.2 refl)
+    (simp length-set at.invariant.0, segment_more _ _ _ _ at.i _ at.invariant.1 refl)
 
 pub returns : goal.returns
 unfolding rows_vector combined
-returns c = segment_all _ _ _ _ c.loop-i.i _ (omega arith) c.loop-i.invariant.2
+returns c = segment_all _ _ _ _ c.loop-i.i _ (omega arith) c.loop-i.invariant.1

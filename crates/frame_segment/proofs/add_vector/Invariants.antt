@@ -1,4 +1,3 @@
-use Prim.Native.Nat.{◌≤◌, ◌-◌}
 use mathlib.Core.List.{[], ◌∷◌}
 use mathlib.Core.Path.{◌≡◌}
 use lib.ListN.{length}
@@ -8,7 +7,4 @@ use Rattle.frame_segment.proofs.add_vector.Given as goal
 
 abbrev pub invariant-loop-i : goal.invariant-loop-i
 invariant-loop-i l =
-    (l.i ≤ l.width) × (length l.g ≡ length l.initial.g) × (l.g ≡ add_all l.initial.g (upto l.i (cell_at l.at (rows_vector l.r (l.s0 ∷ l.s1 ∷ l.s2 ∷ []) l.t l.weight))))
-
-abbrev pub decreases-loop-i : goal.decreases-loop-i
-decreases-loop-i l = l.width - l.i
+    (length l.g ≡ length l.initial.g) × (l.g ≡ add_all l.initial.g (upto l.i (cell_at l.at (rows_vector l.r (l.s0 ∷ l.s1 ∷ l.s2 ∷ []) l.t l.weight))))

@@ -2,7 +2,6 @@
 use Prim.Native.Nat.{◌+◌, ◌*◌, ◌≤◌}
 use mathlib.Core.Path.{◌≡◌, refl}
 use native.Mathlib.Omega.{arith}
-use borrow.Author.Rules.{rules}
 use Rattle.transform_products.proofs.Laws.{row_fits, row_written, rows_none, rows_more}
 use Rattle.frame_stored.proofs.store_rows.Goals as goal
 use Rattle.frame_stored.proofs.store_rows.Goals.{In-loop-i}
@@ -14,24 +13,24 @@ fits c = row_fits c.loop-i.i c.args.stride (omega (arith, c.requires.0)) c.requi
 pub store_row-requires : goal.store_row-requires
 store_row-requires c =
     let pre = c.requires in
-    (pre.0, omega arith, omega (arith, fits (goal.at.store_row-requires c).In-loop-i, pre.2), c.loop-i.invariant.1.size)
+    (pre.0, omega arith, omega (arith, fits (goal.at.store_row-requires c).In-loop-i, pre.2))
 
 pub loop-i-preserved : goal.loop-i-preserved
 loop-i-preserved c =
     let l = c.loop-i in
     let pre = c.requires in
     let fit = fits (goal.at.loop-i-preserved c).In-loop-i in
-    let row = row_written _ _ _ _ l.i _ _ l.out _ (omega (arith, fit, pre.2, l.invariant.1.size)) (λ k h. refl) refl c.store_row.ensures in
-    (search rules, rows_more _ _ _ l.i _ l.out _ (omega (arith, pre.0, c.loop-i-test.true)) pre.1 (omega (arith, pre.2)) (λ k h. refl) row l.invariant.1)
+    let row = row_written _ _ _ _ l.i _ _ l.out _ (omega (arith, fit, pre.2, l.invariant.size)) (λ k h. refl) refl c.store_row.ensures in
+    rows_more _ _ _ l.i _ l.out _ (omega (arith, pre.0, c.loop-i-test.true)) pre.1 (omega (arith, pre.2)) (λ k h. refl) row l.invariant
 
 pub returns : goal.returns
 returns c =
     let l = c.loop-i in
     let e : l.i ≡ c.args.width = omega arith in
-    rw e at l.invariant.1
+    rw e at l.invariant
 
 pub loop-i-init : goal.loop-i-init
-loop-i-init c = (search rules, rows_none _ _ _ _ c.requires.3)
+loop-i-init c = rows_none _ _ _ c.args.out.now (omega arith)
 
 pub overflow_mul-base : goal.overflow_mul-base
 overflow_mul-base c = omega (arith, fits c)
