@@ -84,6 +84,13 @@ place_fits n i h = ⊎_elim inner (λ (l : grouped n ≤ i). rw (place_last n i 
     inner : i < grouped n → place_of n i < n
     inner l = let q = whole_group n i l in rw (place-grouped n i l) (omega arith)
 
+-- nor does a whole group leave the whole groups
+pub place_stays : (n i : ℕ) → i < grouped n → place_of n i < grouped n
+place_stays n i l =
+    let q = whole_group n i l in
+    let e : i / GROUPED * GROUPED + list_place (i % MOMENTS) (i / MOMENTS % GROUP) ≡ i = omega arith in
+    rw (place-grouped n i l) (inside n (i / GROUPED) (i % MOMENTS) (i / MOMENTS % GROUP) q (omega arith) (omega arith) (card_place (i % MOMENTS) (i / MOMENTS % GROUP)) (omega arith))
+
 pub number_fits : (n p : ℕ) → p < n → number_at n p < n
 number_fits n p h = ⊎_elim inner (λ (l : grouped n ≤ p). rw (number_last n p l) h) (side p (grouped n))
   where

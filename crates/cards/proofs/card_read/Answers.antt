@@ -13,7 +13,7 @@ returns-then-bad_lengths c = refused (rw (← c.bad_lengths.ensures, c.if-bad_le
 
 pub read_groups-requires : goal.read_groups-requires
 read_groups-requires c =
-    (c.table-places.ensures, sym (good_lengths _ _ (sym c.bad_lengths.ensures ∙ c.if-bad_lengths.false)).2, omega arith)
+    (sym (good_lengths _ _ (sym c.bad_lengths.ensures ∙ c.if-bad_lengths.false)).2, omega arith)
 
 pub read_last-requires : goal.read_last-requires
 unfolding grouped

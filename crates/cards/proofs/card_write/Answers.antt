@@ -13,7 +13,7 @@ returns-then-bad_lengths c = refused (rw (← c.bad_lengths.ensures, c.if-bad_le
 
 pub write_groups-requires : goal.write_groups-requires
 write_groups-requires c =
-    (c.table-places.ensures, (good_lengths _ _ (sym c.bad_lengths.ensures ∙ c.if-bad_lengths.false)).2, omega arith)
+    ((good_lengths _ _ (sym c.bad_lengths.ensures ∙ c.if-bad_lengths.false)).2, omega arith)
 
 pub write_last-requires : goal.write_last-requires
 unfolding grouped

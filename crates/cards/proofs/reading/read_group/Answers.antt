@@ -4,4 +4,4 @@ use borrow.Author.Rules.{rules}
 use Rattle.cards.proofs.reading.read_group.Goals as goal
 
 pub read_two-requires : goal.read_two-requires
-read_two-requires c = let pre = c.requires in (pre.0, pre.1, search rules, search rules, rw add-zero pre.2)
+read_two-requires c = let pre = c.requires in (pre.0, search rules, rw add-zero pre.1)

@@ -12,7 +12,7 @@ use Rattle.cards.proofs.Carried.{read_step, two_more, joined}
 use Rattle.cards.proofs.reading.read_two.Goals as goal
 
 pub loop-f-init : goal.loop-f-init
-loop-f-init c = let pre = c.requires in (search rules, rw add-zero pre.4, λ i a b. absurd (omega arith))
+loop-f-init c = let pre = c.requires in (rw add-zero pre.2, λ i a b. absurd (omega arith))
 
 pub bounds-moments-second : goal.bounds-moments-second
 bounds-moments-second c = simp length-set (search rules)
@@ -26,8 +26,8 @@ loop-f-preserved c =
     let r = c.args.r in
     let f = at.f in
     let k = g * GROUPED + r * MOMENTS in
-    let same = at.invariant.1.0 in
-    let whole : g * GROUPED + GROUPED ≤ length l = omega (arith, c.requires.1, same) in
+    let same = at.invariant.0.0 in
+    let whole : g * GROUPED + GROUPED ≤ length l = omega (arith, c.requires.0, same) in
     let at_place : ℕ → ℕ = λ q. get_or card q 0 in
     let v = at_place (g * GROUPED + c.place.result) in
     let v' = at_place (g * GROUPED + c.place-in-loop-f.result) in
@@ -39,13 +39,13 @@ loop-f-preserved c =
     let size : length m ≡ length l = length-set l (k + f) v in
     let one = read_step l card (k + f) v (omega arith) p in
     let other = read_step m card (k + MOMENTS + f) v' (rw size (omega arith)) (rw size q) in
-    let two = two_more (k + f) (k + MOMENTS + f) (k + MOMENTS) (k + (f + 1)) (k + MOMENTS + (f + 1)) (omega arith) (omega arith) (omega arith) (omega arith) one other at.invariant.1.1 at.invariant.2 in
-    (search rules, (same ∙ sym (length-set m _ _ ∙ size), two.0), two.1)
+    let two = two_more (k + f) (k + MOMENTS + f) (k + MOMENTS) (k + (f + 1)) (k + MOMENTS + (f + 1)) (omega arith) (omega arith) (omega arith) (omega arith) one other at.invariant.0.1 at.invariant.1 in
+    ((same ∙ sym (length-set m _ _ ∙ size), two.0), two.1)
 
 pub returns : goal.returns
 returns c =
     let at = c.loop-f in
     let k = c.args.g * GROUPED + c.args.r * MOMENTS in
-    let e : at.f ≡ MOMENTS = omega (arith, c.requires.3) in
+    let e : at.f ≡ MOMENTS = omega arith in
     let end : k + MOMENTS + MOMENTS ≡ c.args.g * GROUPED + (c.args.r + 2) * MOMENTS = omega arith in
-    rw end at (joined at.moments c.args.card.now (k + MOMENTS) (k + MOMENTS + MOMENTS) (rw e at at.invariant.1) (rw e at at.invariant.2))
+    rw end at (joined at.moments c.args.card.now (k + MOMENTS) (k + MOMENTS + MOMENTS) (rw e at at.invariant.0) (rw e at at.invariant.1))

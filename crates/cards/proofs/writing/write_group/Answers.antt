@@ -4,4 +4,4 @@ use borrow.Author.Rules.{rules}
 use Rattle.cards.proofs.writing.write_group.Goals as goal
 
 pub write_two-requires : goal.write_two-requires
-write_two-requires c = let pre = c.requires in (pre.0, pre.1, search rules, search rules, rw add-zero pre.2)
+write_two-requires c = let pre = c.requires in (pre.0, search rules, rw add-zero pre.1)

@@ -2,29 +2,28 @@
 use Prim.Native.Nat.{◌+◌, ◌*◌}
 use mathlib.Core.Path.{◌≡◌}
 use native.Mathlib.Omega.{arith}
-use borrow.Author.Rules.{rules}
 use Rattle.cards.specs.Card.{GROUPED}
 use Rattle.cards.proofs.Carried.{none_yet}
 use Rattle.cards.proofs.writing.write_groups.Goals as goal
 
 pub loop-g-init : goal.loop-g-init
-loop-g-init c = (search rules, none_yet c.args.moments.now c.args.card.now c.requires.1)
+loop-g-init c = (none_yet c.args.moments.now c.args.card.now c.requires.0)
 
 pub write_group-requires : goal.write_group-requires
 write_group-requires c =
     let at = c.loop-g in
     let pre = c.requires in
-    (pre.0, omega (arith, pre.2), at.invariant.1)
+    (omega (arith, pre.1), at.invariant)
 
 pub loop-g-preserved : goal.loop-g-preserved
 loop-g-preserved c =
     let at = c.loop-g in
     let e : at.g * GROUPED + GROUPED ≡ (at.g + 1) * GROUPED = omega arith in
-    (search rules, rw e at c.write_group.ensures)
+    (rw e at c.write_group.ensures)
 
 pub returns : goal.returns
 returns c =
     let at = c.loop-g in
     let groups = c.args.groups in
     let e : at.g ≡ groups = omega arith in
-    rw e at at.invariant.1
+    rw e at at.invariant

@@ -1,10 +1,7 @@
-use Prim.Native.Nat.{◌*◌, ◌-◌, ◌≤◌}
+use Prim.Native.Nat.{◌*◌}
 use Rattle.cards.specs.Card.{GROUPED}
 use Rattle.cards.specs.Steps.{Carried}
 use Rattle.cards.proofs.writing.write_groups.Given as goal
 
 abbrev pub invariant-loop-g : goal.invariant-loop-g
-invariant-loop-g l = (l.g ≤ l.groups) × Carried l.moments l.card (l.g * GROUPED)
-
-abbrev pub decreases-loop-g : goal.decreases-loop-g
-decreases-loop-g l = l.groups - l.g
+invariant-loop-g l = Carried l.moments l.card (l.g * GROUPED)

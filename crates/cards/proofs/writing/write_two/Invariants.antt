@@ -1,4 +1,4 @@
-use Prim.Native.Nat.{◌+◌, ◌*◌, ◌-◌, ◌≤◌}
+use Prim.Native.Nat.{◌+◌, ◌*◌}
 use Rattle.point_moments.specs.Moments.{MOMENTS}
 use Rattle.cards.specs.Card.{GROUPED}
 use Rattle.cards.specs.Steps.{PlacedFrom, Carried}
@@ -7,7 +7,4 @@ use Rattle.cards.proofs.writing.write_two.Given as goal
 abbrev pub invariant-loop-f : goal.invariant-loop-f
 invariant-loop-f l =
     let k = l.g * GROUPED + l.r * MOMENTS in
-    (l.f ≤ MOMENTS) × Carried l.moments l.card (k + l.f) × PlacedFrom l.moments l.card (k + MOMENTS) (k + MOMENTS + l.f)
-
-abbrev pub decreases-loop-f : goal.decreases-loop-f
-decreases-loop-f l = MOMENTS - l.f
+    Carried l.moments l.card (k + l.f) × PlacedFrom l.moments l.card (k + MOMENTS) (k + MOMENTS + l.f)
