@@ -12,6 +12,7 @@ use lib.ListN.{length, get_or, set, take, drop, take-append-drop, drop_of_length
 use lib.Seq.{ext_get_or, sets-eq, drop-drop, take_at, take_all, take-add, take-suc, take-suc-set, length-take-le, drop-append-add}
 use lib.Ieee.{Float, nan}
 use borrow.Author.Tests.{ltb-false, eqb-true, not-false, lt-ltb, le-ltb}
+use Rattle.std.specs.Prelude.{Option, Some, None}
 use Rattle.sums.specs.Sum.{◌⊕◌, ◌⊗◌, zero_f, tab, grid}
 use Rattle.sums.specs.Laws.{length-tab, tab-same, get_or-tab, off-add, sum_to_more, length-grid, grid-column}
 use Rattle.sums.specs.Fill.{written, written_same, padded, column_ends}
@@ -24,11 +25,10 @@ use Rattle.normal_blocks.specs.Map.{bad_words}
 use Rattle.normal_blocks.specs.Calls.{MOST_WORDS}
 use Rattle.normal_blocks.specs.Target.{number_from}
 use Rattle.derivative.specs.Action.{most_dof}
-use Rattle.block_transforms.specs.Transform.{NO_TRANSFORM, ROOM, shape_at, entry_from, width_under}
+use Rattle.block_transforms.specs.Transform.{NO_TRANSFORM, ROOM, sized, shape_at, entry_from, width_under}
 use Rattle.block_transforms.specs.Reasons.{bad_beside, MOST_COLUMNS, misfit}
 use Rattle.block_transforms.proofs.Laws.{Fits, transform_fits, transform_there}
 use Rattle.block_transforms.specs.declared.Shape.{Shape}
-use Rattle.block_transforms.specs.declared.Shape.TheVariants.{Absent, Sized}
 use Rattle.transform_maps.specs.Multiply.{Work, further_of, old_of, bad_slices, too_wide, wide_at, some_wide, unchained, bad_further, transform_refusal, newly_made, chained, made_entry, made_columns, or_else, spliced, replaced, new_shapes, new_transforms}
 
 -- ---- a slice that is empty or long enough, read element by element
@@ -236,28 +236,28 @@ accepted_work w os on h =
     }
 
 -- the further one has dof rows and at most nine columns, and the old one as many rows as it has columns
-further_fits : (dof rows cols : ℕ) (old : Shape) → bad_further dof (Sized rows cols) old ≡ false → Fits dof rows cols × (unchained cols old ≡ false)
+further_fits : (dof rows cols : ℕ) (old : Option Shape) → bad_further dof (sized rows cols) old ≡ false → Fits dof rows cols × (unchained cols old ≡ false)
 unfolding bad_further
 further_fits dof rows cols old h =
-    let p = either_none (misfit dof (Sized rows cols)) _ h in
-    (transform_fits dof rows cols (Sized rows cols) refl p.0, p.1)
+    let p = either_none (misfit dof (sized rows cols)) _ h in
+    (transform_fits dof rows cols (sized rows cols) refl p.0, p.1)
 
-old_chains : (cols rows cols' : ℕ) → unchained cols (Sized rows cols') ≡ false → cols ≡ rows
+old_chains : (cols rows cols' : ℕ) → unchained cols (sized rows cols') ≡ false → cols ≡ rows
 unfolding unchained
 old_chains cols rows cols' h = long_is cols rows h
 
-old-narrow : (shape : ℕ → Shape) (words k rows cols : ℕ) → some_wide shape words ≡ false → k < words → shape k ≡ Sized rows cols → cols ≤ MOST_COLUMNS
+old-narrow : (shape : ℕ → Option Shape) (words k rows cols : ℕ) → some_wide shape words ≡ false → k < words → shape k ≡ sized rows cols → cols ≤ MOST_COLUMNS
 unfolding some_wide wide_at too_wide
 old-narrow shape words k rows cols none h e = ltb-false MOST_COLUMNS cols (rw e at (nowhere-at (wide_at shape) words none k h))
 
 -- how wide what is made is, and the old transform at the place
 module _ (w : Work) (os on : ℕ) (ok : transform_refusal w os on ≡ 0) where
-  further_sized : (s : Shape) → bad_further w.dof s (old_of w) ≡ false → (width_under s 0 ≤ 9) × (unchained (width_under s 0) (old_of w) ≡ false)
+  further_sized : (s : Option Shape) → bad_further w.dof s (old_of w) ≡ false → (width_under s 0 ≤ 9) × (unchained (width_under s 0) (old_of w) ≡ false)
   unfolding bad_further
-  further_sized Absent h = let z : ◌≡◌ {A = ℕ} 0 1 = cc in absurd (omega arith)
-  further_sized (Sized rows cols) h = let p = further_fits w.dof rows cols (old_of w) h in (p.0.narrow, p.1)
+  further_sized None h = let z : ◌≡◌ {A = ℕ} 0 1 = cc in absurd (omega arith)
+  further_sized (Some s) h = let p = further_fits w.dof s.rows s.cols (old_of w) h in (p.0.narrow, p.1)
 
-  pub old-known : (inner width : ℕ) → old_of w ≡ Sized inner width → (width ≡ made_columns w) × (inner ≤ 9) × (ROOM * w.place + ROOM ≤ length w.transforms)
+  pub old-known : (inner width : ℕ) → old_of w ≡ sized inner width → (width ≡ made_columns w) × (inner ≤ 9) × (ROOM * w.place + ROOM ≤ length w.transforms)
   old-known inner width e =
       let a = accepted_work w os on ok in
       let f = further_sized (further_of w) a.fitting in
@@ -267,14 +267,14 @@ module _ (w : Work) (os on : ℕ) (ok : transform_refusal w os on ≡ 0) where
   pub made_narrow : made_columns w ≤ 9
   made_narrow = go (old_of w) refl
     where
-      go : (s : Shape) → old_of w ≡ s → width_under s (width_under (further_of w) 0) ≤ 9
-      go Absent e = (further_sized (further_of w) (accepted_work w os on ok).fitting).0
-      go (Sized inner width) e =
+      go : (s : Option Shape) → old_of w ≡ s → width_under s (width_under (further_of w) 0) ≤ 9
+      go None e = (further_sized (further_of w) (accepted_work w os on ok).fitting).0
+      go (Some s) e =
           let a = accepted_work w os on ok in
-          old-narrow (shape_at w.shapes) (length w.map) w.place inner width a.wide (transform_there (length w.map) w.shapes (length w.transforms) w.place inner width a.slices e).0 e
+          old-narrow (shape_at w.shapes) (length w.map) w.place s.rows s.cols a.wide (transform_there (length w.map) w.shapes (length w.transforms) w.place s.rows s.cols a.slices e).0 e
 
 -- ---- what the work leaves
-pub multiplied : (w : Work) (cols : ℕ) (old : Shape) (made : List Float) (to : List ℕ) (out : List Float)
+pub multiplied : (w : Work) (cols : ℕ) (old : Option Shape) (made : List Float) (to : List ℕ) (out : List Float)
     → to ≡ replaced (length w.map) w.place 2 (w.dof ∷ cols ∷ []) (or_else (2 * length w.map) NO_TRANSFORM w.shapes)
     → out ≡ replaced (length w.map) w.place ROOM made (or_else (ROOM * length w.map) zero_f w.transforms)
     → cols ≡ made_columns w → old ≡ old_of w → made ≡ newly_made w.dof cols (made_entry old (entry_from w.further 0 w.dof) (entry_from w.transforms (ROOM * w.place)))

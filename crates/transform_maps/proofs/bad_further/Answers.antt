@@ -5,12 +5,12 @@ use Rattle.transform_maps.proofs.bad_further.Goals as goal
 
 pub returns-then-misfit : goal.returns-then-misfit
 unfolding bad_further
-returns-then-misfit c = rw (c.in-Sized.is, sym c.misfit.ensures ∙ c.if-misfit.true)
+returns-then-misfit c = rw (c.in-Some.is, sym c.misfit.ensures ∙ c.if-misfit.true)
 
 pub returns-else-misfit : goal.returns-else-misfit
 unfolding bad_further
-returns-else-misfit c = rw (c.in-Sized.is, sym c.misfit.ensures ∙ c.if-misfit.false) c.unchained.ensures
+returns-else-misfit c = rw (c.in-Some.is, sym c.misfit.ensures ∙ c.if-misfit.false) c.unchained.ensures
 
-pub returns-in-Absent : goal.returns-in-Absent
+pub returns-in-None : goal.returns-in-None
 unfolding bad_further
-returns-in-Absent c = rw c.in-Absent.is
+returns-in-None c = rw c.in-None.is

@@ -2,10 +2,10 @@
 use Rattle.transform_maps.specs.Multiply.{unchained}
 use Rattle.transform_maps.proofs.unchained.Goals as goal
 
-pub returns-in-Sized : goal.returns-in-Sized
+pub returns-in-Some : goal.returns-in-Some
 unfolding unchained
-returns-in-Sized c = rw c.in-Sized.is
+returns-in-Some c = rw c.in-Some.is
 
-pub returns-in-Absent : goal.returns-in-Absent
+pub returns-in-None : goal.returns-in-None
 unfolding unchained
-returns-in-Absent c = rw c.in-Absent.is
+returns-in-None c = rw c.in-None.is
