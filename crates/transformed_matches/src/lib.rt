@@ -2,14 +2,14 @@
 #![tactic(auto)]
 
 ghost use Rattle.std.specs.Prelude.{◌≡◌, ◌+◌, ◌*◌, ◌≤◌, length};
+ghost use Rattle.refusals.specs.Number.{number};
 ghost use Rattle.normal_blocks.specs.Map.{lookup};
 ghost use Rattle.block_transforms.specs.Transform.{shape_at, entry_from, width_under};
 ghost use Rattle.call_lists.specs.Accumulated.{Accumulated};
 ghost use Rattle.map_planes.specs.Accumulate.{transformed_matches_call, matches_call};
 ghost use Rattle.transformed_matches.specs.Steps.{There, Ready, SumsAdded, ListAdded};
 
-use block_transforms::Shape;
-use normal_blocks::Place;
+use refusals::Refusal;
 
 // A block by columns and a vector, of `width` rows, are added at row `at`, through the transform of word 0 if it has one.
 fn add_sums(
@@ -27,16 +27,16 @@ fn add_sums(
 {
     let n = gradient.len();
     match block_transforms::shape_at(shapes, 0) {
-        Shape::Absent => {
+        None => {
             normal_blocks::target::add_block(hessian, n, at, width, m, 9);
             normal_blocks::target::add_run(gradient, at, v, 0, width);
         }
-        Shape::Sized(rows, cols) => {
+        Some(shape) => {
             let mut laid = [0.0; 90];
             let mut u = [0.0; 90];
-            transform_products::lay(m, v, rows, &mut laid);
+            transform_products::lay(m, v, shape.rows, &mut laid);
             transform_products::add_other(
-                hessian, gradient, n, at, transforms, 0, rows, cols, &laid, 10, &mut u,
+                hessian, gradient, n, at, transforms, 0, shape.rows, shape.cols, &laid, 10, &mut u,
             );
         }
     }
@@ -57,19 +57,19 @@ fn add_list(
     ensures { ListAdded (length gradient.old) width (shape_at shapes.now 0) (entry_from transforms.now 0) (lookup map.now 0) x.now list.now result hessian.old hessian.new gradient.old gradient.new }
 {
     match normal_blocks::lookup(map, 0) {
-        Place::At(at) => {
+        Some(at) => {
             let sums = match_sums::match_sums(list, x, width);
             let m = sums.block;
             let v = sums.vector;
             add_sums(width, &m, &v, at, shapes, transforms, hessian, gradient);
             sums.cost
         }
-        Place::Unmapped => match_sums::cost(list, x),
+        None => match_sums::cost(list, x),
     }
 }
 
-// The host's call: the cost of a match list, and its block and vector, through the transform of word 0, added to the normal equations. The
-// number of the reason to refuse, or 0.
+// The host's call: the cost of a match list, and its block and vector, through the transform of word 0, added to the normal equations.
+// Nothing is written where it is refused.
 pub fn accumulate(
     dof: u32,
     matches: &[f64],
@@ -80,25 +80,19 @@ pub fn accumulate(
     hessian: &mut [f64],
     gradient: &mut [f64],
     cost: &mut f64,
-) -> u32
-    ensures { Accumulated (transformed_matches_call (length hessian.old) (length gradient.old) (record { work = record { dof = dof; matches = matches.now; action = action.now; map = map.now }; shapes = shapes.now; transforms = transforms.now })) hessian.old gradient.old cost.old result hessian.new gradient.new cost.new }
+) -> Result<(), Refusal>
+    ensures { Accumulated (transformed_matches_call (length hessian.old) (length gradient.old) (record { work = record { dof = dof; matches = matches.now; action = action.now; map = map.now }; shapes = shapes.now; transforms = transforms.now })) hessian.old gradient.old cost.old (number result) hessian.new gradient.new cost.new }
 {
     let n = gradient.len();
     let target = normal_blocks::bad_target(map.len(), hessian.len(), n);
     let slices = block_transforms::bad_beside(map.len(), shapes.len(), transforms.len());
-    let why = map_planes::matches_refusal(dof, matches, target | slices, action);
-    if why != 0 {
-        return why;
-    }
+    map_planes::matches_refusal(dof, matches, target | slices, action)?;
     let width = dof as usize;
-    let bad = block_transforms::through_refusal(map, shapes, 1, width, n);
-    if bad != 0 {
-        return bad;
-    }
+    block_transforms::through_refusal(map, shapes, 1, width, n)?;
     *cost = add_list(
         width, matches, action, map, shapes, transforms, hessian, gradient,
     );
-    0
+    Ok(())
 }
 
 // The host's call without transforms: the same with empty slices.
@@ -110,8 +104,8 @@ pub fn accumulate_plain(
     hessian: &mut [f64],
     gradient: &mut [f64],
     cost: &mut f64,
-) -> u32
-    ensures { Accumulated (matches_call (length hessian.old) (length gradient.old) (record { dof = dof; matches = matches.now; action = action.now; map = map.now })) hessian.old gradient.old cost.old result hessian.new gradient.new cost.new }
+) -> Result<(), Refusal>
+    ensures { Accumulated (matches_call (length hessian.old) (length gradient.old) (record { dof = dof; matches = matches.now; action = action.now; map = map.now })) hessian.old gradient.old cost.old (number result) hessian.new gradient.new cost.new }
 {
     accumulate(
         dof,

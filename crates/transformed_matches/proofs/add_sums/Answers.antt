@@ -9,25 +9,25 @@ use Rattle.transformed_matches.proofs.add_sums.Goals as goal
 pub add_block-requires : goal.add_block-requires
 add_block-requires c =
     let pre = c.requires in
-    let none = sym c.shape_at.ensures ∙ c.in-Absent.is in
+    let none = sym c.shape_at.ensures ∙ c.in-None.is in
     (rw none at pre.1, pre.2, pre.0, omega (arith, pre.0, pre.4))
 
 pub add_run-requires : goal.add_run-requires
 add_run-requires c =
     let pre = c.requires in
-    let none = sym c.shape_at.ensures ∙ c.in-Absent.is in
+    let none = sym c.shape_at.ensures ∙ c.in-None.is in
     (rw none at pre.1, omega (arith, pre.0, pre.5))
 
 pub lay-requires : goal.lay-requires
 lay-requires c =
     let pre = c.requires in
-    let there = pre.3 _ _ (sym c.shape_at.ensures ∙ c.in-Sized.is) in
+    let there = pre.3 _ _ (sym c.shape_at.ensures ∙ c.in-Some.is) in
     (omega (arith, there.1, pre.0), refl)
 
 pub add_other-requires : goal.add_other-requires
 add_other-requires c =
     let pre = c.requires in
-    let sized = sym c.shape_at.ensures ∙ c.in-Sized.is in
+    let sized = sym c.shape_at.ensures ∙ c.in-Some.is in
     let there = pre.3 _ _ sized in (
       omega (arith, there.1, pre.0),
       there.0,
@@ -40,12 +40,12 @@ add_other-requires c =
       refl,
     )
 
-pub returns-in-Absent : goal.returns-in-Absent
-returns-in-Absent c =
-    let none = sym c.shape_at.ensures ∙ c.in-Absent.is in
+pub returns-in-None : goal.returns-in-None
+returns-in-None c =
+    let none = sym c.shape_at.ensures ∙ c.in-None.is in
     plain_added _ _ _ _ _ _ _ _ _ _ _ none c.add_block.ensures c.add_run.ensures
 
-pub returns-in-Sized : goal.returns-in-Sized
-returns-in-Sized c =
-    let sized = sym c.shape_at.ensures ∙ c.in-Sized.is in
+pub returns-in-Some : goal.returns-in-Some
+returns-in-Some c =
+    let sized = sym c.shape_at.ensures ∙ c.in-Some.is in
     laid_added _ _ _ _ _ _ _ _ _ _ _ _ _ _ _ sized (c.requires.3 _ _ sized).1 c.lay.ensures c.add_other.ensures
