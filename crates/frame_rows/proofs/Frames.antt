@@ -35,17 +35,17 @@ four_is d count v s info (suc (suc (suc (suc k)))) h =
 
 -- of frame f, by its root
 module _ (frames actions : List Float) (ds : List ℕ) (p : Fitted) (f : ℕ) (root : Root) (rooted : root ≡ root_at frames ds f) where
-  pub frame_four : (r : ℕ) → r < 4 → residual_rows frames actions p root f ! r ≡ frame_row frames actions ds p.normal p.offset p.info r f
+  pub frame_four : (r : ℕ) → r < 4 → residual_rows frames actions p root f ! r ≡ frame_row frames actions ds p.plane.normal p.plane.offset p.info r f
   unfolding frame_row
   frame_four r h =
       ap (λ (q : Root). residual_rows frames actions p q f ! r) rooted
-      ∙ four_is (decomposition_at ds (f + 1)) (frame_at frames f).count (normal_in (action_at actions f) p.normal) (along_of p.normal p.offset (carried (action_at actions f) (frame_at frames f).mean)) p.info r h
+      ∙ four_is (decomposition_at ds (f + 1)) (frame_at frames f).count (normal_in (action_at actions f) p.plane.normal) (along_of p.plane.normal p.plane.offset (carried (action_at actions f) (frame_at frames f).mean)) p.info r h
 
-  pub block-four : (c r : ℕ) → r < 4 → column_rows frames actions p c root f ! r ≡ block_cell frames actions ds p.normal p.info f c r
+  pub block-four : (c r : ℕ) → r < 4 → column_rows frames actions p c root f ! r ≡ block_cell frames actions ds p.plane.normal p.info f c r
   unfolding block_cell
   block-four c r h =
       ap (λ (q : Root). column_rows frames actions p c q f ! r) rooted
-      ∙ four_is (decomposition_at ds (f + 1)) (frame_at frames f).count (tab 3 (λ l. d_an (action_at actions f) p.normal l c)) (d_along (action_at actions f) p.normal (frame_at frames f).mean c) p.info r h
+      ∙ four_is (decomposition_at ds (f + 1)) (frame_at frames f).count (tab 3 (λ l. d_an (action_at actions f) p.plane.normal l c)) (d_along (action_at actions f) p.plane.normal (frame_at frames f).mean c) p.info r h
 
 -- of the fixed set, or where there is none
 module _ (count : ℕ) (fixed : List Float) (ds : List ℕ) (n : List Float) (offset info : Float) (out : List Float) (at : ℕ) where

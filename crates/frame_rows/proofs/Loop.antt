@@ -28,21 +28,21 @@ columns_batch cols f l out from (suc k) n h p =
 module _ (frames actions : List Float) (ds : List ℕ) (p : Fitted) where
   -- what is to be written
   abbrev row_of : ℕ → ℕ → Float
-  row_of = frame_row frames actions ds p.normal p.offset p.info
+  row_of = frame_row frames actions ds p.plane.normal p.plane.offset p.info
 
   abbrev cell_of : ℕ → ℕ → ℕ → Float
-  cell_of = block_cell frames actions ds p.normal p.info
+  cell_of = block_cell frames actions ds p.plane.normal p.info
 
   module _ (width : ℕ) (residual jacobian : List Float) where
     pub record Lined (residual' jacobian' : List Float) (k : ℕ) : Type 0 where
       pub rows : Columns 4 (frame_count frames + 1) row_of residual residual' k
-      pub cells : Partly frames actions ds p.normal p.info (frame_count frames) width k (λ g d. k ≤ g) jacobian'
+      pub cells : Partly frames actions ds p.plane.normal p.info (frame_count frames) width k (λ g d. k ≤ g) jacobian'
 
     module _ (room : Room frames actions ds (length residual) (length jacobian) width) where
       pub lined_none : Lined residual jacobian 0
       lined_none = record {
         rows = columns-none _ _ _ _;
-        cells = partly_none frames actions ds p.normal p.info (frame_count frames) width jacobian room.jacobian_whole;
+        cells = partly_none frames actions ds p.plane.normal p.info (frame_count frames) width jacobian room.jacobian_whole;
       }
 
       module _ (residual' jacobian' : List Float) (from : ℕ) (sofar : Lined residual' jacobian' from) where
@@ -58,14 +58,14 @@ module _ (frames actions : List Float) (ds : List ℕ) (p : Fitted) where
             = λ c k l r b. block-four frames actions ds p (from + k) _ (rooted_is frames ds from rooted k l) c r b in
             record {
               rows = rw (hr, put_same residual' (from * 4) 4 _ (λ k r. row_of r (from + k)) size row) (columns_batch (frame_count frames + 1) row_of residual residual' from size room.residual_whole (omega arith) sofar.rows);
-              cells = rw (hj, blocks_same (cleared jacobian' from width (length residual) size) from width (length residual) size _ (λ c k r. cell_of (from + k) c r) width block, room.residual_whole) (partly_batch frames actions ds p.normal p.info (frame_count frames) width from size h jacobian' sofar.cells);
+              cells = rw (hj, blocks_same (cleared jacobian' from width (length residual) size) from width (length residual) size _ (λ c k r. cell_of (from + k) c r) width block, room.residual_whole) (partly_batch frames actions ds p.plane.normal p.info (frame_count frames) width from size h jacobian' sofar.cells);
             }
 
         pub lined_all : from ≡ frame_count frames → FramesWritten frames actions ds p width residual residual' jacobian'
         unfolding jacobian_of
         lined_all e = record {
           residual_is = rw e at sofar.rows.filled;
-          jacobian_is = partly_all frames actions ds p.normal p.info (frame_count frames) width jacobian' from (omega arith) sofar.cells;
+          jacobian_is = partly_all frames actions ds p.plane.normal p.info (frame_count frames) width jacobian' from (omega arith) sofar.cells;
         }
 
 -- the frames' rows, then the fixed set's

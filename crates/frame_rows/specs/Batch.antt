@@ -14,10 +14,10 @@ use Rattle.frame_rows.specs.declared.Fitted.{Fitted}
 -- the four residuals of frame f, and column c of its block, by its root
 abbrev pub residual_rows : List Float → List Float → Fitted → Root → ℕ → List Float
 residual_rows frames actions p root f =
-    rows_of root (normal_in (action_at actions f) p.normal) (along_of p.normal p.offset (carried (action_at actions f) (frame_at frames f).mean)) p.info
+    rows_of root (normal_in (action_at actions f) p.plane.normal) (along_of p.plane.normal p.plane.offset (carried (action_at actions f) (frame_at frames f).mean)) p.info
 
 abbrev pub column_rows : List Float → List Float → Fitted → ℕ → Root → ℕ → List Float
-column_rows frames actions p c root f = column_of (action_at actions f) p.normal (frame_at frames f).mean root p.info c
+column_rows frames actions p c root f = column_of (action_at actions f) p.plane.normal (frame_at frames f).mean root p.info c
 
 -- what the columns of a batch of frames ask
 pub record BatchRoom (frames actions : List Float) (from size width rows cells : ℕ) : Type 0 where
@@ -33,8 +33,8 @@ pub record BatchRoom (frames actions : List Float) (from size width rows cells :
 
 -- the residuals by what was read and worked out of frame f
 pub residual-rows : (frames actions : List Float) (p : Fitted) (f : ℕ) (q root : Root) (s : Centred) (x a w : List Float) (e : Float)
-    → root ≡ q → s ≡ frame_at frames f → x ≡ action_at actions f → a ≡ normal_in x p.normal → w ≡ carried x s.mean → e ≡ along_of p.normal p.offset w
+    → root ≡ q → s ≡ frame_at frames f → x ≡ action_at actions f → a ≡ normal_in x p.plane.normal → w ≡ carried x s.mean → e ≡ along_of p.plane.normal p.plane.offset w
     → rows_of root a e p.info ≡ residual_rows frames actions p q f
 residual-rows frames actions p f q root s x a w e hq hs hx ha hw he =
     ap (λ (r : Root). rows_of r a e p.info) hq
-    ∙ ap₂ (λ (v : List Float) (t : Float). rows_of q v t p.info) (ha ∙ ap (λ (y : List Float). normal_in y p.normal) hx) (he ∙ ap (λ (y : List Float). along_of p.normal p.offset y) (hw ∙ ap₂ (λ (y : List Float) (z : Centred). carried y z.mean) hx hs))
+    ∙ ap₂ (λ (v : List Float) (t : Float). rows_of q v t p.info) (ha ∙ ap (λ (y : List Float). normal_in y p.plane.normal) hx) (he ∙ ap (λ (y : List Float). along_of p.plane.normal p.plane.offset y) (hw ∙ ap₂ (λ (y : List Float) (z : Centred). carried y z.mean) hx hs))

@@ -50,5 +50,5 @@ pub record FixedRoom (fixed : List Float) (ds : List ℕ) (count residuals : ℕ
 
 -- all frames' residuals, before the fixed set's; and their blocks
 pub record FramesWritten (frames actions : List Float) (ds : List ℕ) (p : Fitted) (width : ℕ) (residual residual' jacobian' : List Float) : Type 0 where
-  pub residual_is : residual' ≡ grid 4 (frame_count frames) (frame_row frames actions ds p.normal p.offset p.info) ++ drop (frame_count frames * 4) residual
-  pub jacobian_is : jacobian' ≡ jacobian_of frames actions ds p.normal p.info width
+  pub residual_is : residual' ≡ grid 4 (frame_count frames) (frame_row frames actions ds p.plane.normal p.plane.offset p.info) ++ drop (frame_count frames * 4) residual
+  pub jacobian_is : jacobian' ≡ jacobian_of frames actions ds p.plane.normal p.info width

@@ -18,6 +18,7 @@ ghost use Rattle.frame_rows.specs.Batch.{residual_rows, column_rows, BatchRoom};
 
 use derivative::ACTION;
 use frame_roots::{BATCH, Root};
+use plane::Plane;
 use point_moments::scatter::{CENTRED, Centred};
 
 // The four rows of a root for a vector v and a distance s.
@@ -36,8 +37,7 @@ fn rows(root: Root, v: [f64; 3], s: f64, info: f64) -> [f64; 4]
 // A fitted plane, and the 1 / sigma that rows are scaled by.
 #[derive(Clone, Copy)]
 pub struct Fitted {
-    pub normal: [f64; 3],
-    pub offset: f64,
+    pub plane: Plane,
     pub info: f64,
 }
 
@@ -91,8 +91,8 @@ fn fill_residuals(
         let f = Centred::from_list(plane_fit::whole_at(frames, CENTRED, from + k));
         let x = plane_fit::whole_at(actions, ACTION, from + k);
         let mean = f.mean;
-        let n = p.normal;
-        let along = frame_normal::along(n, p.offset, action::carried(x, mean));
+        let n = p.plane.normal;
+        let along = frame_normal::along(n, p.plane.offset, action::carried(x, mean));
         let v = frame_normal::normal_in(x, n);
         put_rows(
             cells,
@@ -120,7 +120,7 @@ fn fill_column(
         let f = Centred::from_list(plane_fit::whole_at(frames, CENTRED, from + k));
         let x = plane_fit::whole_at(actions, ACTION, from + k);
         let mean = f.mean;
-        let n = p.normal;
+        let n = p.plane.normal;
         put_rows(
             cells,
             k,
@@ -214,7 +214,7 @@ fn fixed_rows(d: &[u64], count: f64, n: [f64; 3], along: f64, info: f64) -> [f64
 // The four residuals of the fixed set after so many frames, +0 where there is none.
 fn write_fixed(fixed: &[f64], ds: &[u64], count: usize, p: Fitted, residual: &mut [f64])
     requires { FixedRoom fixed.now ds.now count (length residual.old) }
-    ensures { residual.new ≡ written residual.old (count * 4) 4 (fixed_row count fixed.now ds.now p.normal p.offset p.info) }
+    ensures { residual.new ≡ written residual.old (count * 4) 4 (fixed_row count fixed.now ds.now p.plane.normal p.plane.offset p.info) }
 {
     let at = count * 4;
     if fixed.len() == 0 {
@@ -223,8 +223,8 @@ fn write_fixed(fixed: &[f64], ds: &[u64], count: usize, p: Fitted, residual: &mu
     }
     let f = Centred::from_list(fixed);
     let mean = f.mean;
-    let n = p.normal;
-    let along = frame_normal::along(n, p.offset, mean);
+    let n = p.plane.normal;
+    let along = frame_normal::along(n, p.plane.offset, mean);
     let four = fixed_rows(
         frame_roots::decomposition_at(ds, count + 1),
         f.count,
@@ -241,21 +241,16 @@ pub fn write_all(
     fixed: &[f64],
     actions: &[f64],
     ds: &[u64],
-    n: [f64; 3],
-    offset: f64,
+    plane: Plane,
     info: f64,
     width: usize,
     residual: &mut [f64],
     jacobian: &mut [f64],
 )
     requires { Room frames.now actions.now ds.now (length residual.old) (length jacobian.old) width × FixedRoom fixed.now ds.now (frame_count frames.now) (length residual.old) }
-    ensures { (residual.new ≡ residual_of frames.now fixed.now actions.now ds.now n offset info) × (jacobian.new ≡ jacobian_of frames.now actions.now ds.now n info width) }
+    ensures { (residual.new ≡ residual_of frames.now fixed.now actions.now ds.now plane.normal plane.offset info) × (jacobian.new ≡ jacobian_of frames.now actions.now ds.now plane.normal info width) }
 {
-    let p = Fitted {
-        normal: n,
-        offset,
-        info,
-    };
+    let p = Fitted { plane, info };
     write_frames(frames, actions, ds, p, width, residual, jacobian);
     write_fixed(fixed, ds, frames.len() / CENTRED, p, residual);
 }

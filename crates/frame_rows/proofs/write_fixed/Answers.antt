@@ -13,7 +13,7 @@ use Rattle.frame_rows.proofs.write_fixed.Goals.{Else-fixed-eq0}
 pub returns-then-fixed-eq0 : goal.returns-then-fixed-eq0
 returns-then-fixed-eq0 c =
     let a = c.args in
-    c.put_four.ensures ∙ fixed_none a.count a.fixed.now a.ds.now a.p.normal a.p.offset a.p.info a.residual.now _ c.if-fixed-eq0.true
+    c.put_four.ensures ∙ fixed_none a.count a.fixed.now a.ds.now a.p.plane.normal a.p.plane.offset a.p.info a.residual.now _ c.if-fixed-eq0.true
 
 pub from_list-f-requires : goal.from_list-f-requires
 from_list-f-requires c = ⊎_elim (λ e. absurd (c.if-fixed-eq0.false e)) (λ e. e) c.requires.fixed_whole
@@ -31,7 +31,7 @@ pub returns : goal.returns
 returns c =
     let a = c.args in
     c.put_four-2.ensures
-    ∙ fixed_some a.count a.fixed.now a.ds.now a.p.normal a.p.offset a.p.info a.residual.now _ c.from_list-f.result _ c.along-along.result _ c.if-fixed-eq0.false c.from_list-f.ensures c.decomposition_at.ensures c.along-along.ensures c.fixed_rows-four.ensures
+    ∙ fixed_some a.count a.fixed.now a.ds.now a.p.plane.normal a.p.plane.offset a.p.info a.residual.now _ c.from_list-f.result _ c.along-along.result _ c.if-fixed-eq0.false c.from_list-f.ensures c.decomposition_at.ensures c.along-along.ensures c.fixed_rows-four.ensures
 
 pub overflow_mul-at : goal.overflow_mul-at
 overflow_mul-at c = omega (arith, c.requires.residual_whole)
