@@ -8,12 +8,13 @@ ghost use Rattle.batches.specs.Beside.{put_beside};
 ghost use Rattle.decomposition.specs.Axes.{DECOMPOSITION};
 ghost use Rattle.point_moments.specs.Scatter.{CENTRED};
 ghost use Rattle.frame_roots.specs.Roots.{at_least_zero, radicands_of, root_row, root_with, decomposition_at};
-ghost use Rattle.frame_roots.specs.Batch.{BATCH, ROOTS, FOURS, numbers_of, root_in, four_of, Radicands, RootedWith, Rooted};
+ghost use Rattle.frame_roots.specs.Batch.{BATCH, numbers_of, root_in, four_of, Radicands, RootedWith, Rooted};
 
 use decomposition::DECOMPOSITION;
 use point_moments::scatter::{CENTRED, Centred};
 
 // An eigenvalue whose root is taken; one at or below 0 or a NaN is taken as +0.
+#[tactic(auto, unfolding(crate::specs::Roots::at_least_zero))]
 fn at_least_zero(value: f64) -> f64
     ensures { result ≡ at_least_zero value }
 {
@@ -71,9 +72,7 @@ pub fn put_four(out: &mut [f64], at: usize, v: [f64; 4])
     requires { at + 4 ≤ length out.old }
     ensures { out.new ≡ written out.old at 4 (λ k. v ! k) }
 {
-    for k in 0..4 {
-        out[at + k] = v[k];
-    }
+    lists::store(&mut out[at..at + 4], &v);
 }
 
 // How many frames are worked out before anything of them is stored.
@@ -81,7 +80,7 @@ pub const BATCH: usize = 8;
 
 // Puts a root into those of a batch as that of its k-th frame.
 fn put_root(roots: &mut [f64; 80], k: usize, root: Root)
-    requires { (k < BATCH) × (length roots.old ≡ ROOTS) }
+    requires { k < BATCH }
     ensures { roots.new ≡ put_beside BATCH 10 roots.old k (numbers_of root) }
 {
     let a = root.first;
@@ -112,7 +111,7 @@ fn radicands(d: &[u64], count: f64) -> [f64; 4]
 
 // These of a batch of frames from frame `from` on, four a frame.
 fn fill_radicands(frames: &[f64], ds: &[u64], from: usize, size: usize, fours: &mut [f64; 32])
-    requires { (size ≤ BATCH) × (length fours.old ≡ FOURS) × (CENTRED * (from + size) ≤ length frames.now) × ((from + size + 1) * DECOMPOSITION ≤ length ds.now) }
+    requires { (size ≤ BATCH) × (CENTRED * (from + size) ≤ length frames.now) × ((from + size + 1) * DECOMPOSITION ≤ length ds.now) }
     ensures { Radicands frames.now ds.now from size fours.new }
 {
     for k in 0..size {
@@ -137,7 +136,7 @@ fn four_at(fours: &[f64; 32], k: usize) -> [f64; 4]
 
 // The roots of the scatters of a batch of frames from frame `from` on, with the roots of four numbers of each in hand.
 fn put_roots(ds: &[u64], from: usize, size: usize, fours: &[f64; 32], roots: &mut [f64; 80])
-    requires { (size ≤ BATCH) × (length roots.old ≡ ROOTS) × ((from + size + 1) * DECOMPOSITION ≤ length ds.now) }
+    requires { (size ≤ BATCH) × ((from + size + 1) * DECOMPOSITION ≤ length ds.now) }
     ensures { RootedWith ds.now from fours.now size roots.new }
 {
     for k in 0..size {
@@ -155,8 +154,8 @@ pub fn fill_roots(
     fours: &mut [f64; 32],
     roots: &mut [f64; 80],
 )
-    requires { (size ≤ BATCH) × (length fours.old ≡ FOURS) × (length roots.old ≡ ROOTS) × (CENTRED * (from + size) ≤ length frames.now) × ((from + size + 1) * DECOMPOSITION ≤ length ds.now) }
-    ensures { (length fours.new ≡ FOURS) × Rooted frames.now ds.now from size roots.new }
+    requires { (size ≤ BATCH) × (CENTRED * (from + size) ≤ length frames.now) × ((from + size + 1) * DECOMPOSITION ≤ length ds.now) }
+    ensures { Rooted frames.now ds.now from size roots.new }
 {
     fill_radicands(frames, ds, from, size, fours);
     square_root::many::sqrt_all(fours, size * 4);

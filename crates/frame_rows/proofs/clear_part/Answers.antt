@@ -1,16 +1,12 @@
--- `frame_rows::clear_part` meets its contract: after k turns the first k cells are +0. Assumes nothing.
-use mathlib.Core.Path.{refl}
-use borrow.Author.Rules.{rules}
-use Rattle.sums.specs.Fill.{writing_none, writing_more, writing_all}
+-- `frame_rows::clear_part` meets its contract: as many zeros as the part has places. Assumes nothing.
+use Rattle.std.proofs.Common.{◌≡◌, ◌+◌, ◌-◌, length, take, drop, ap, ◌∙◌, arith, length-take, length-drop}
+use Rattle.std.specs.Prelude.{replicate}
+use Rattle.sums.specs.Sum.{zero_f}
+use Rattle.frame_roots.proofs.Puts.{part-put, zeros}
 use Rattle.frame_rows.proofs.clear_part.Goals as goal
 
-pub loop-k-preserved : goal.loop-k-preserved
-loop-k-preserved c =
-    let l = c.loop-k in
-    writing_more _ _ _ _ l.out l.k _ (search rules) (search rules) refl l.invariant
-
-pub loop-k-init : goal.loop-k-init
-loop-k-init c = writing_none _ _ _ _
-
 pub returns : goal.returns
-returns c = writing_all _ _ _ _ _ _ c.loop-k-test.false c.loop-k.invariant
+returns c =
+    let a = c.args in
+    let many : length (take (a.at + a.many - a.at) (drop a.at a.out.now)) ≡ a.many = simp (length-take, length-drop) (omega arith) in
+    part-put _ _ a.at _ a.many _ (omega arith) (c.clear.ensures ∙ ap (λ n. replicate n zero_f) many ∙ zeros a.many)

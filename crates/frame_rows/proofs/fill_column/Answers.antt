@@ -2,15 +2,11 @@
 use Prim.Native.Nat.{◌+◌}
 use mathlib.Core.Path.{◌≡◌, refl}
 use native.Mathlib.Omega.{arith}
-use borrow.Author.Rules.{rules}
-use Rattle.batches.specs.Beside.{beside_none, beside_more}
+use Rattle.batches.specs.Beside.{beside_more}
 use Rattle.plane_fit.specs.Records.{record_length}
 use Rattle.frame_roots.specs.Batch.{root_in}
 use Rattle.frame_rows.specs.Batch.{column_rows}
 use Rattle.frame_rows.proofs.fill_column.Goals as goal
-
-pub loop-k-init : goal.loop-k-init
-loop-k-init c = (search rules, beside_none _ (search rules))
 
 pub from_list-f-requires : goal.from_list-f-requires
 from_list-f-requires c = rw c.whole_at.ensures (record_length 13 _ _ (omega arith))
@@ -19,20 +15,10 @@ pub column-requires : goal.column-requires
 column-requires c =
     (omega arith, rw c.whole_at-x.ensures (record_length 120 _ _ (omega arith)))
 
-pub put_rows-requires : goal.put_rows-requires
-put_rows-requires c =
-    (omega arith, c.loop-k.invariant.1.long)
-
 pub loop-k-preserved : goal.loop-k-preserved
 loop-k-preserved c =
     let l = c.loop-k in
     let a = c.args in
     let is : c.column.result ≡ column_rows a.frames.now a.actions.now a.p a.c (root_in a.roots.now l.k) (a.from + l.k)
     = rw (c.column.ensures, c.root_at.ensures, c.whole_at-x.ensures, c.from_list-f.ensures, c.whole_at.ensures) in
-    (search rules, beside_more _ (omega (arith, c.loop-k-test.true, c.requires.1)) is refl c.put_rows.ensures l.invariant.1)
-
-pub returns : goal.returns
-returns c =
-    let l = c.loop-k in
-    let e : l.k ≡ c.args.size = omega arith in
-    rw e at l.invariant.1
+    beside_more _ (omega arith) is refl c.put_rows.ensures l.invariant

@@ -1,4 +1,4 @@
-use Prim.Native.Nat.{◌+◌, ◌≤◌, ◌-◌}
+use Prim.Native.Nat.{◌+◌}
 use Rattle.batches.specs.Beside.{Beside}
 use Rattle.frame_roots.specs.Batch.{BATCH, root_in}
 use Rattle.frame_rows.specs.Batch.{column_rows}
@@ -6,7 +6,4 @@ use Rattle.frame_rows.proofs.fill_column.Given as goal
 
 abbrev pub invariant-loop-k : goal.invariant-loop-k
 invariant-loop-k l =
-    (l.k ≤ l.size) × Beside BATCH 4 (λ k. column_rows l.frames l.actions l.p l.c (root_in l.roots k) (l.from + k)) l.k l.cells
-
-abbrev pub decreases-loop-k : goal.decreases-loop-k
-decreases-loop-k l = l.size - l.k
+    Beside BATCH 4 (λ k. column_rows l.frames l.actions l.p l.c (root_in l.roots k) (l.from + k)) l.k l.cells

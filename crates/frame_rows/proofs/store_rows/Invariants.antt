@@ -1,4 +1,3 @@
-use Prim.Native.Nat.{◌≤◌, ◌-◌}
 use mathlib.Core.Path.{◌≡◌}
 use lib.ListN.{length}
 use Rattle.lists.specs.Part.{◌!◌}
@@ -8,7 +7,4 @@ use Rattle.frame_roots.specs.Batch.{BATCH}
 use Rattle.frame_rows.proofs.store_rows.Given as goal
 
 abbrev pub invariant-loop-k : goal.invariant-loop-k
-invariant-loop-k l = (l.k ≤ l.size) × (length l.out ≡ length l.initial.out) × (l.out ≡ put_columns l.initial.out l.at l.stride (λ k r. beside_of BATCH 4 l.cells k ! r) l.k)
-
-abbrev pub decreases-loop-k : goal.decreases-loop-k
-decreases-loop-k l = l.size - l.k
+invariant-loop-k l = (length l.out ≡ length l.initial.out) × (l.out ≡ put_columns l.initial.out l.at l.stride (λ k r. beside_of BATCH 4 l.cells k ! r) l.k)

@@ -6,7 +6,6 @@ use native.Mathlib.Omega.{arith}
 use lib.ListN.{length}
 use lib.Ieee.{Float}
 use Rattle.lists.specs.Part.{◌!◌}
-use Rattle.frame_rows.specs.Steps.{put_blocks}
 use Rattle.frame_roots.specs.Batch.{root_in}
 use Rattle.frame_rows.specs.Batch.{column_rows}
 use Rattle.frame_rows.specs.Laws.{put_same, length-put, blocks_none, blocks_more}
@@ -19,13 +18,7 @@ abbrev start : (t : In-loop-c) → Start
 start t = (goal.at.In-loop-c t).Start
 
 kept : (t : In-loop-c) → length t.loop-c.jacobian ≡ length (start t).args.jacobian.now
-kept t = t.loop-c.invariant.2
-
-pub fill_column-requires : goal.fill_column-requires
-fill_column-requires c =
-    let l = c.loop-c in
-    let room = (start (goal.at.fill_column-requires c).In-loop-c).requires.1 in
-    (omega (arith, c.loop-c-test.true, room.narrow), room.few, l.invariant.1, omega (arith, room.within), omega (arith, room.within, room.actions_whole))
+kept t = t.loop-c.invariant.0
 
 -- where a turn's column lies
 abbrev Placed : (t : In-loop-c) → Type 0
@@ -36,7 +29,7 @@ Placed t =
 
 placed : (t : In-loop-c) → Placed t
 placed t =
-    let room = (start t).requires.1 in
+    let room = (start t).requires in
     let l = t.loop-c in (
       batch_starts _ _ _ _ _ _ _ room l.c t.loop-c-test.true,
       batch_narrow _ _ _ _ _ _ _ room l.c t.loop-c-test.true,
@@ -47,7 +40,7 @@ placed t =
 pub store_rows-requires : goal.store_rows-requires
 store_rows-requires c =
     let t = (goal.at.store_rows-requires c).In-loop-c in
-    ((start t).requires.1.few, λ k h. rw (kept t) (column_fits _ _ _ _ _ _ _ (start t).requires.1 c.loop-c.c c.loop-c-test.true k h))
+    ((start t).requires.few, λ k h. rw (kept t) (column_fits _ _ _ _ _ _ _ (start t).requires c.loop-c.c c.loop-c-test.true k h))
 
 pub loop-c-preserved : goal.loop-c-preserved
 loop-c-preserved c =
@@ -58,38 +51,15 @@ loop-c-preserved c =
     let at = (a.from * a.width + l.c) * a.rows + a.from * 4 in
     let step = a.width * a.rows + 4 in
     let w = c.store_rows.ensures ∙ put_same l.jacobian at step _ (λ k r. column_rows a.frames.now a.actions.now a.p l.c (root_in a.roots.now k) (a.from + k) ! r) a.size (λ k h r b. ap (λ (v : List Float). v ! r) (held.each k h)) in (
-      omega (arith, c.loop-c-test.true),
-      held.long,
-      ap length w ∙ length-put l.jacobian at step _ a.size (λ k h. rw (kept t) (column_fits _ _ _ _ _ _ _ (start t).requires.1 l.c c.loop-c-test.true k h)) ∙ l.invariant.2,
-      blocks_more _ l.jacobian _ a.from a.width a.rows a.size _ l.c l.invariant.3 w,
+      ap length w ∙ length-put l.jacobian at step _ a.size (λ k h. rw (kept t) (column_fits _ _ _ _ _ _ _ (start t).requires l.c c.loop-c-test.true k h)) ∙ l.invariant.0,
+      blocks_more _ l.jacobian _ a.from a.width a.rows a.size _ l.c l.invariant.1 w,
     )
 
-pub returns : goal.returns
-returns c =
-    let l = c.loop-c in
-    let a = c.args in
-    let e : l.c ≡ a.width = omega arith in (l.invariant.1, l.invariant.3 ∙ ap (put_blocks _ a.from a.width a.rows a.size _) e)
-
 pub loop-c-init : goal.loop-c-init
-loop-c-init c = (omega arith, c.requires.0, refl, blocks_none _ _ _ _ _ _)
-
-pub overflow_mul-at : goal.overflow_mul-at
-overflow_mul-at c = omega (arith, placed (goal.at.overflow_mul-at c).In-loop-c)
-
-pub overflow_add-at : goal.overflow_add-at
-overflow_add-at c = omega (arith, placed (goal.at.overflow_add-at c).In-loop-c)
+loop-c-init c = (refl, blocks_none _ _ _ _ _ _)
 
 pub overflow_mul-at-in-loop-c : goal.overflow_mul-at-in-loop-c
 overflow_mul-at-in-loop-c c = omega (arith, placed (goal.at.overflow_mul-at-in-loop-c c).In-loop-c)
 
-pub overflow_mul-at-in-loop-c-2 : goal.overflow_mul-at-in-loop-c-2
-overflow_mul-at-in-loop-c-2 c = omega (arith, placed (goal.at.overflow_mul-at-in-loop-c-2 c).In-loop-c)
-
 pub overflow_add-at-in-loop-c : goal.overflow_add-at-in-loop-c
 overflow_add-at-in-loop-c c = omega (arith, placed (goal.at.overflow_add-at-in-loop-c c).In-loop-c)
-
-pub overflow_mul-width : goal.overflow_mul-width
-overflow_mul-width c = omega (arith, placed (goal.at.overflow_mul-width c).In-loop-c)
-
-pub overflow_add-width : goal.overflow_add-width
-overflow_add-width c = omega (arith, placed (goal.at.overflow_add-width c).In-loop-c)

@@ -1,7 +1,6 @@
 -- `frame_rows::write_fixed` meets its contract: no set, or the set's four rows. Assumes nothing.
 use Prim.Native.Nat.{◌+◌, ◌*◌, ◌≤◌}
 use mathlib.Core.Path.{◌∙◌}
-use mathlib.Core.Logic.{⊎_elim}
 use native.Mathlib.Omega.{arith}
 use lib.ListN.{length}
 use Rattle.decomposition.specs.Axes.{DECOMPOSITION}
@@ -14,9 +13,6 @@ pub returns-then-fixed-eq0 : goal.returns-then-fixed-eq0
 returns-then-fixed-eq0 c =
     let a = c.args in
     c.put_four.ensures ∙ fixed_none a.count a.fixed.now a.ds.now a.p.plane.normal a.p.plane.offset a.p.info a.residual.now _ c.if-fixed-eq0.true
-
-pub from_list-f-requires : goal.from_list-f-requires
-from_list-f-requires c = ⊎_elim (λ e. absurd (c.if-fixed-eq0.false e)) (λ e. e) c.requires.fixed_whole
 
 -- the fixed set's own decomposition is within the list
 own : (e : Else-fixed-eq0) → let a = e.args in (a.count + 1) * DECOMPOSITION + DECOMPOSITION ≤ length a.ds.now
@@ -32,15 +28,3 @@ returns c =
     let a = c.args in
     c.put_four-2.ensures
     ∙ fixed_some a.count a.fixed.now a.ds.now a.p.plane.normal a.p.plane.offset a.p.info a.residual.now _ c.from_list-f.result _ c.along-along.result _ c.if-fixed-eq0.false c.from_list-f.ensures c.decomposition_at.ensures c.along-along.ensures c.fixed_rows-four.ensures
-
-pub overflow_mul-at : goal.overflow_mul-at
-overflow_mul-at c = omega (arith, c.requires.residual_whole)
-
-pub put_four-requires : goal.put_four-requires
-put_four-requires c = omega (arith, c.requires.residual_whole)
-
-pub overflow_add-count : goal.overflow_add-count
-overflow_add-count c = omega (arith, own (goal.at.overflow_add-count c).Else-fixed-eq0)
-
-pub decomposition_at-requires : goal.decomposition_at-requires
-decomposition_at-requires c = own (goal.at.decomposition_at-requires c).Else-fixed-eq0
