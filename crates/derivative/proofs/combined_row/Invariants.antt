@@ -1,4 +1,3 @@
-use Prim.Native.Nat.{◌-◌}
 use mathlib.Core.List.{[], ◌∷◌}
 use Rattle.sums.specs.Fill.{Filling}
 use Rattle.derivative.specs.Derivative.{combined, rows}
@@ -6,6 +5,3 @@ use Rattle.derivative.proofs.combined_row.Given as goal
 
 abbrev pub invariant-loop-i : goal.invariant-loop-i
 invariant-loop-i l = Filling 9 l.width (combined (rows l.a l.b l.c) (l.s0 ∷ l.s1 ∷ l.s2 ∷ [])) l.row l.i
-
-abbrev pub decreases-loop-i : goal.decreases-loop-i
-decreases-loop-i l = l.width - l.i

@@ -1,4 +1,3 @@
-use Prim.Native.Nat.{◌-◌}
 use mathlib.Core.List.{[], ◌∷◌}
 use lib.ListN.{get_or}
 use lib.Ieee.{nan}
@@ -8,6 +7,3 @@ use Rattle.derivative.proofs.shifted_row.Given as goal
 
 abbrev pub invariant-loop-i : goal.invariant-loop-i
 invariant-loop-i l = Filling 9 l.width (shifted (λ i. get_or l.o i nan) (rows l.a l.b l.c) (l.p0 ∷ l.p1 ∷ l.p2 ∷ [])) l.row l.i
-
-abbrev pub decreases-loop-i : goal.decreases-loop-i
-decreases-loop-i l = l.width - l.i
