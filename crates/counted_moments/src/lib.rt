@@ -9,6 +9,7 @@ use point_moments::PointMoments;
 use refusals::Refusal;
 
 // The point p pushed into m.
+#[tactic(auto, unfolding(crate::specs::Counted::push_reasons))]
 pub fn push_refusal(m: PointMoments, p: [f64; 3]) -> Result<(), Refusal>
     ensures { number result ≡ push_refusal m p }
 {

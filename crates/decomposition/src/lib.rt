@@ -29,13 +29,10 @@ pub fn rising(d: &[u64]) -> Axes
     ensures { result ≡ rising_of d.now }
 {
     let o = total_order::order_of_three(d[0], d[1], d[2]);
-    let i = o.first;
-    let j = o.second;
-    let k = o.third;
-    let first = value(d, i);
-    let second = value(d, j);
-    let third = value(d, k);
-    let normal = vector(d, i);
+    let first = value(d, o.first);
+    let second = value(d, o.second);
+    let third = value(d, o.third);
+    let normal = vector(d, o.first);
     Axes {
         first,
         second,
@@ -64,13 +61,7 @@ pub fn vector(d: &[u64], k: usize) -> [f64; 3]
 fn numbers(a: u64, b: u64, c: u64) -> [f64; 3]
     ensures { result ≡ (of_bits binary64 a ∷ of_bits binary64 b ∷ of_bits binary64 c ∷ []) }
 {
-    if total_order::is_nan(a) {
-        return each_number(a, b, c);
-    }
-    if total_order::is_nan(b) {
-        return each_number(a, b, c);
-    }
-    if total_order::is_nan(c) {
+    if total_order::is_nan(a) || total_order::is_nan(b) || total_order::is_nan(c) {
         return each_number(a, b, c);
     }
     [f64::from_bits(a), f64::from_bits(b), f64::from_bits(c)]
@@ -79,8 +70,9 @@ fn numbers(a: u64, b: u64, c: u64) -> [f64; 3]
 fn each_number(a: u64, b: u64, c: u64) -> [f64; 3]
     ensures { result ≡ (of_bits binary64 a ∷ of_bits binary64 b ∷ of_bits binary64 c ∷ []) }
 {
-    let x = total_order::number(a);
-    let y = total_order::number(b);
-    let z = total_order::number(c);
-    [x, y, z]
+    [
+        total_order::number(a),
+        total_order::number(b),
+        total_order::number(c),
+    ]
 }

@@ -39,6 +39,7 @@ pub fn push(moments: &mut [f64], point: &[f64]) -> Result<(), Refusal>
 }
 
 // Another set more.
+#[tactic(auto, unfolding(crate::specs::Calls::merge_refusal, crate::specs::Calls::joined))]
 pub fn merge(moments: &mut [f64], other: &[f64]) -> Result<(), Refusal>
     ensures { Merges moments.old other.now (number result) moments.new }
 {
@@ -56,6 +57,7 @@ pub fn merge(moments: &mut [f64], other: &[f64]) -> Result<(), Refusal>
 }
 
 // The moments of the points a·p + b.
+#[tactic(auto, unfolding(crate::specs::Calls::move_refusal, crate::specs::Calls::moved))]
 pub fn transformed(moments: &[f64], a: &[f64], b: &[f64], out: &mut [f64]) -> Result<(), Refusal>
     ensures { Transforms moments.now a.now b.now out.old (number result) out.new }
 {
@@ -101,6 +103,7 @@ pub fn mean_and_scatter(moments: &[f64], out: &mut [f64], found: &mut u32) -> Re
 }
 
 // Normal, offset and the eigenvalues in rising order; where there is no plane, `found` is 0 and `out` as it was.
+#[tactic(auto, unfolding(crate::specs::Calls::plane_refusal, crate::specs::Calls::plane_answer))]
 pub fn plane(
     moments: &[f64],
     decomposition: &[u64],

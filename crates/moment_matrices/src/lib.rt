@@ -8,9 +8,7 @@ ghost use Rattle.moment_matrices.specs.Matrices.{spread_of, symmetric_of, scatte
 pub fn spread(o: [f64; 9], u: [f64; 3], n: f64) -> [f64; 9]
     ensures { result ≡ spread_of o u n }
 {
-    let x = u[0];
-    let y = u[1];
-    let z = u[2];
+    let [x, y, z] = u;
     [
         o[0] / n - x * x,
         o[1] / n - y * x,
@@ -47,6 +45,7 @@ pub fn scaled9(s: [f64; 9], n: f64) -> [f64; 9]
 }
 
 // The scatter from outer products, mean and count.
+#[tactic(auto, unfolding(crate::specs::Matrices::scatter_of))]
 pub fn scatter_of(o: [f64; 9], u: [f64; 3], n: f64) -> [f64; 9]
     ensures { result ≡ scatter_of o u n }
 {
