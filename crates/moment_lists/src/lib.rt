@@ -9,6 +9,7 @@ use point_moments::{MOMENTS, PointMoments};
 use refusals::Refusal;
 
 // The moments of points, three numbers each.
+#[tactic(auto, using(crate::proofs::FromPoints::no_push_refused), unfolding(crate::specs::Calls::gathered))]
 pub fn from_points(points: &[f64], moments: &mut [f64]) -> Result<(), Refusal>
     ensures { FromPoints points.now moments.old (number result) moments.new }
 {
@@ -22,6 +23,7 @@ pub fn from_points(points: &[f64], moments: &mut [f64]) -> Result<(), Refusal>
 }
 
 // One point more. The point is read before the moments are looked at, so that the compiler keeps the two tests of lengths apart, which is faster.
+#[tactic(auto, unfolding(crate::specs::Calls::push_refusal, crate::specs::Calls::pushed))]
 pub fn push(moments: &mut [f64], point: &[f64]) -> Result<(), Refusal>
     ensures { Pushes moments.old point.now (number result) moments.new }
 {
@@ -79,6 +81,7 @@ pub fn transformed(moments: &[f64], a: &[f64], b: &[f64], out: &mut [f64]) -> Re
 }
 
 // Mean and scatter; where there is none, `found` is 0 and `out` as it was.
+#[tactic(auto, unfolding(crate::specs::Calls::mean_refusal, crate::specs::Calls::mean_answer))]
 pub fn mean_and_scatter(moments: &[f64], out: &mut [f64], found: &mut u32) -> Result<(), Refusal>
     ensures { FindsMean moments.now out.old found.old (number result) out.new found.new }
 {
