@@ -3,18 +3,35 @@ use Prim.Native.Nat.{ℕ, zero, suc, ◌+◌, ◌*◌, ◌/◌, ◌%◌, ◌≤�
 use mathlib.Core.Path.{◌≡◌, refl, sym, ap, ◌∙◌}
 use mathlib.Core.Bool.{Bool, true, false, not, ◌||◌}
 use mathlib.Core.List.{List, [], ◌∷◌, ◌++◌}
+use native.Mathlib.Numerals.{add-one}
 use native.Mathlib.Nat.{div-add-mod', mul-div_cancel}
 use native.Mathlib.Omega.{arith}
 use lib.Dec.{ltb, eqb}
-use lib.ListN.{length}
+use lib.ListN.{length, get_or, take}
+use lib.Seq.{take_all}
 use lib.Ieee.{Float}
 use borrow.Author.Tests.{ltb-false, eqb-true, not-false}
+use Rattle.std.specs.List.{list_any}
+use Rattle.std.proofs.lemmas.List.Folds.{list_any_more}
 use Rattle.refusals.specs.Refusal.{Reason, ◌when◌, first_of, none, either_none}
+use Rattle.normal_blocks.specs.Somewhere.{somewhere}
 use Rattle.plane_fit.specs.Calls.{most_frames}
 use Rattle.bundle_points.specs.Points.{most_points, point_count}
 use Rattle.bundle_rows.specs.Rows.{total}
 use Rattle.plane_bundle.specs.Calls.{row_count, bad_points, some_empty, too_few, not_finite, bundle_reasons}
 use Rattle.plane_bundle.specs.Steps.{count_refusal, shape_refusal, Shaped}
+
+-- a search of a list, as code makes it with `any`, is one of its places
+module _ (test : ℕ → Bool) (xs : List ℕ) where
+  first : (i : ℕ) → i ≤ length xs → list_any test (take i xs) ≡ somewhere i (λ k. test (get_or xs k 0))
+  unfolding somewhere
+  first zero h = refl
+  first (suc i) h =
+      let more : list_any test (take (i + 1) xs) ≡ (list_any test (take i xs) || test (get_or xs i 0)) = list_any_more test xs i 0 (omega arith) in
+      (rw add-one at more) ∙ rw (first i (omega arith))
+
+  pub any_somewhere : list_any test xs ≡ somewhere (length xs) (λ k. test (get_or xs k 0))
+  any_somewhere = ap (list_any test) (sym (take_all (length xs) xs (omega arith))) ∙ first (length xs) (omega arith)
 
 module _ (counts : List ℕ) (points fixed : List Float) where
   pub shaped : bad_points counts points fixed ≡ false → Shaped counts points fixed

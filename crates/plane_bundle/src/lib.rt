@@ -2,6 +2,7 @@
 #![tactic(auto)]
 
 ghost use Rattle.std.specs.Prelude.{◌≡◌, not, ◌++◌, ◌≤◌, eqb, length};
+ghost use Rattle.refusals.specs.Number.{number};
 ghost use Rattle.sums.specs.Sum.{tab};
 ghost use Rattle.plane_fit.specs.Calls.{most_frames};
 ghost use Rattle.bundle_points.specs.Points.{most_points, coordinate_sum};
@@ -15,13 +16,7 @@ use bundle_points::MOST_POINTS;
 use decomposition::{DECOMPOSITION, MIN_POINTS_GAP};
 use derivative::MOST_DOF;
 use plane_fit::MOST_FRAMES;
-
-// A count in 64 bits.
-fn wide(x: u32) -> usize
-    ensures { (result ≡ x) × (result ≤ 4294967295) }
-{
-    x as usize
-}
+use refusals::Refusal;
 
 // How many site points the frames have. At most 256 words of 32 bits: their sum is far below 2^64.
 fn total(counts: &[u32]) -> usize
@@ -29,10 +24,8 @@ fn total(counts: &[u32]) -> usize
     ensures { (result ≡ total counts.now) × (result ≤ 1099511627520) }
 {
     let mut sum = 0;
-    let mut k = 0;
-    while k < counts.len() {
-        sum += wide(counts[k]);
-        k += 1;
+    for count in counts {
+        sum += *count as usize;
     }
     sum
 }
@@ -58,91 +51,80 @@ fn bad_points(counts: &[u32], points: &[f64], fixed: &[f64]) -> bool
 fn some_empty(counts: &[u32]) -> bool
     ensures { result ≡ some_empty counts.now }
 {
-    let mut k = 0;
-    while k < counts.len() {
-        if counts[k] == 0 {
-            return true;
-        }
-        k += 1;
-    }
-    false
+    counts.iter().any(|count| *count == 0)
 }
 
 // 4 and 5.
-fn count_refusal(counts: &[u32], rows: usize) -> u32
-    ensures { result ≡ count_refusal counts.now rows }
+fn count_refusal(counts: &[u32], rows: usize) -> Result<(), Refusal>
+    ensures { number result ≡ count_refusal counts.now rows }
 {
     if some_empty(counts) {
-        return 4;
+        return Err(Refusal::EmptyFrame);
     }
     if rows < 3 {
-        return 5;
+        return Err(Refusal::TooFewPoints);
     }
-    0
+    Ok(())
 }
 
 // 2 to 5, of the call that asks.
-fn fit_shape(counts: &[u32], points: &[f64], fixed: &[f64], out: usize) -> u32
-    ensures { result ≡ shape_refusal counts.now points.now fixed.now (not (eqb out 12)) }
+fn fit_shape(counts: &[u32], points: &[f64], fixed: &[f64], out: usize) -> Result<(), Refusal>
+    ensures { number result ≡ shape_refusal counts.now points.now fixed.now (not (eqb out 12)) }
 {
-    if counts.len() == 0 {
-        return 2;
+    if counts.is_empty() {
+        return Err(Refusal::EmptyList);
     }
     if bad_points(counts, points, fixed) {
-        return 3;
+        return Err(Refusal::WrongLength);
     }
     if out != 12 {
-        return 3;
+        return Err(Refusal::WrongLength);
     }
     count_refusal(counts, points.len() / 3 + fixed.len() / 3)
 }
 
-// The host's call: the centroid and the scatter, whose decomposition it then hands in. The number of the reason to refuse, or 0.
-pub fn fit(counts: &[u32], points: &[f64], fixed: &[f64], out: &mut [f64]) -> u32
-    ensures { Fits counts.now points.now fixed.now out.old result out.new }
+// The host's call: the centroid and the scatter, whose decomposition it then hands in. A call that is refused writes nothing.
+pub fn fit(counts: &[u32], points: &[f64], fixed: &[f64], out: &mut [f64]) -> Result<(), Refusal>
+    ensures { Fits counts.now points.now fixed.now out.old (number result) out.new }
 {
-    let why = fit_shape(counts, points, fixed, out.len());
-    if why != 0 {
-        return why;
-    }
+    fit_shape(counts, points, fixed, out.len())?;
     let sums = bundle_points::sums(points, fixed);
     if bundle_points::some_not_finite(points, fixed, sums) {
-        return 6;
+        return Err(Refusal::NotFinite);
     }
     let q = bundle_points::centroid(points, fixed, sums);
     let s = bundle_points::scatter(points, fixed, q);
-    let all = lists::three_and_nine(q, s);
-    lists::store(out, &all);
-    0
+    out.copy_from_slice(&lists::three_and_nine(q, s));
+    Ok(())
 }
 
-// 3, of what linearizing is handed beside counts and points.
-fn bad_sizes(
-    dof: usize,
-    frames: usize,
-    site: usize,
-    rows: usize,
+// How long the slices are that linearizing is handed beside counts and points.
+#[derive(Clone, Copy)]
+struct Sizes {
     state: usize,
     patterns: usize,
     residuals: usize,
     cells: usize,
-) -> bool
+}
+
+// 3, of these.
+fn bad_sizes(dof: usize, frames: usize, site: usize, rows: usize, sizes: Sizes) -> bool
     requires { (dof ≤ 9) × (frames ≤ most_frames) × (site ≤ most_points) × (rows ≤ most_points) }
-    ensures { result ≡ bad_sizes dof frames site rows state patterns residuals cells }
+    ensures { result ≡ bad_sizes dof frames site rows sizes.state sizes.patterns sizes.residuals sizes.cells }
 {
-    if state != site * dof * 3 {
+    if sizes.state != site * dof * 3 {
         return true;
     }
-    if patterns != DECOMPOSITION {
+    if sizes.patterns != DECOMPOSITION {
         return true;
     }
-    if residuals != rows {
+    if sizes.residuals != rows {
         return true;
     }
-    if cells == 0 {
+    if sizes.cells == 0 {
         return false;
     }
-    cells != frames * dof * rows
+    sizes.cells != frames * dof * rows
 }
 
 // 1 to 5, of linearizing.
@@ -151,36 +133,23 @@ fn linearize_shape(
     counts: &[u32],
     points: &[f64],
     fixed: &[f64],
-    state: usize,
-    patterns: usize,
-    residuals: usize,
-    cells: usize,
-) -> u32
-    ensures { result ≡ linearize_shape dof counts.now points.now fixed.now (bad_sizes dof (length counts.now) (total counts.now) (row_count counts.now fixed.now) state patterns residuals cells) }
+    sizes: Sizes,
+) -> Result<(), Refusal>
+    ensures { number result ≡ linearize_shape dof counts.now points.now fixed.now (bad_sizes dof (length counts.now) (total counts.now) (row_count counts.now fixed.now) sizes.state sizes.patterns sizes.residuals sizes.cells) }
 {
     if dof > MOST_DOF {
-        return 1;
+        return Err(Refusal::DofTooLarge);
     }
-    if counts.len() == 0 {
-        return 2;
+    if counts.is_empty() {
+        return Err(Refusal::EmptyList);
     }
     if bad_points(counts, points, fixed) {
-        return 3;
+        return Err(Refusal::WrongLength);
     }
-    let width = dof as usize;
     let site = points.len() / 3;
     let rows = site + fixed.len() / 3;
-    if bad_sizes(
-        width,
-        counts.len(),
-        site,
-        rows,
-        state,
-        patterns,
-        residuals,
-        cells,
-    ) {
-        return 3;
+    if bad_sizes(dof as usize, counts.len(), site, rows, sizes) {
+        return Err(Refusal::WrongLength);
     }
     count_refusal(counts, rows)
 }
@@ -211,14 +180,14 @@ fn write_fitted(
     let q = bundle_points::centroid(points, fixed, sums);
     let info = 1.0 / sigma;
     bundle_rows::write_residuals(points, fixed, q, n, info, residual);
-    if jacobian.len() == 0 {
+    if jacobian.is_empty() {
         return;
     }
     let rows = residual.len();
     bundle_rows::write_jacobian(counts, state, dof as usize, n, info, rows, jacobian);
 }
 
-// The host's call: a residual for each point, and the Jacobian by columns unless it is empty, which means not wanted. The number of the reason to refuse, or 0.
+// The host's call: a residual for each point, and the Jacobian by columns unless it is empty, which means not wanted. A call that is refused writes nothing.
 pub fn linearize(
     dof: u32,
     counts: &[u32],
@@ -229,28 +198,22 @@ pub fn linearize(
     decomposition: &[u64],
     residual: &mut [f64],
     jacobian: &mut [f64],
-) -> u32
-    ensures { Linearizes (record { dof = dof; counts = counts.now; points = points.now; d_state = d_state.now; fixed = fixed.now; sigma = sigma; decomposition = decomposition.now }) residual.old jacobian.old result residual.new jacobian.new }
+) -> Result<(), Refusal>
+    ensures { Linearizes (record { dof = dof; counts = counts.now; points = points.now; d_state = d_state.now; fixed = fixed.now; sigma = sigma; decomposition = decomposition.now }) residual.old jacobian.old (number result) residual.new jacobian.new }
 {
-    let bad = linearize_shape(
-        dof,
-        counts,
-        points,
-        fixed,
-        d_state.len(),
-        decomposition.len(),
-        residual.len(),
-        jacobian.len(),
-    );
-    if bad != 0 {
-        return bad;
-    }
+    let sizes = Sizes {
+        state: d_state.len(),
+        patterns: decomposition.len(),
+        residuals: residual.len(),
+        cells: jacobian.len(),
+    };
+    linearize_shape(dof, counts, points, fixed, sizes)?;
     let sums = bundle_points::sums(points, fixed);
     if bundle_points::some_not_finite(points, fixed, sums) {
-        return 6;
+        return Err(Refusal::NotFinite);
     }
     if !validate::is_positive(sigma) {
-        return 7;
+        return Err(Refusal::BadSigma);
     }
     write_fitted(
         dof,
@@ -264,5 +227,5 @@ pub fn linearize(
         residual,
         jacobian,
     );
-    0
+    Ok(())
 }

@@ -9,22 +9,22 @@ use Rattle.plane_bundle.proofs.bad_sizes.Goals as goal
 few : (frames dof : ℕ) → frames ≤ 256 → dof ≤ 9 → frames * dof ≤ 2304
 few frames dof f d = omega (arith, mul-le-mul_right dof f)
 
-pub returns-then-state-site : goal.returns-then-state-site
+pub returns-then-sizes-site : goal.returns-then-sizes-site
 unfolding bad_sizes
-returns-then-state-site c = rw (ne_eqb _ _ c.if-state-site.true)
+returns-then-sizes-site c = rw (ne_eqb _ _ c.if-sizes-site.true)
 
-pub returns-then-patterns-ne-DECOMPOSITION : goal.returns-then-patterns-ne-DECOMPOSITION
+pub returns-then-sizes-ne-DECOMPOSITION : goal.returns-then-sizes-ne-DECOMPOSITION
 unfolding bad_sizes
-returns-then-patterns-ne-DECOMPOSITION c = rw (eq-eqb _ _ c.if-state-site.false, ne_eqb _ _ c.if-patterns-ne-DECOMPOSITION.true)
+returns-then-sizes-ne-DECOMPOSITION c = rw (eq-eqb _ _ c.if-sizes-site.false, ne_eqb _ _ c.if-sizes-ne-DECOMPOSITION.true)
 
-pub returns-then-residuals-rows : goal.returns-then-residuals-rows
+pub returns-then-sizes-rows : goal.returns-then-sizes-rows
 unfolding bad_sizes
-returns-then-residuals-rows c = rw (eq-eqb _ _ c.if-state-site.false, eq-eqb _ _ c.if-patterns-ne-DECOMPOSITION.false, ne_eqb _ _ c.if-residuals-rows.true)
+returns-then-sizes-rows c = rw (eq-eqb _ _ c.if-sizes-site.false, eq-eqb _ _ c.if-sizes-ne-DECOMPOSITION.false, ne_eqb _ _ c.if-sizes-rows.true)
 
-pub returns-then-cells-eq0 : goal.returns-then-cells-eq0
+pub returns-then-sizes-eq0 : goal.returns-then-sizes-eq0
 unfolding bad_sizes
-returns-then-cells-eq0 c =
-    rw (eq-eqb _ _ c.if-state-site.false, eq-eqb _ _ c.if-patterns-ne-DECOMPOSITION.false, eq-eqb _ _ c.if-residuals-rows.false, eq-eqb _ _ c.if-cells-eq0.true)
+returns-then-sizes-eq0 c =
+    rw (eq-eqb _ _ c.if-sizes-site.false, eq-eqb _ _ c.if-sizes-ne-DECOMPOSITION.false, eq-eqb _ _ c.if-sizes-rows.false, eq-eqb _ _ c.if-sizes-eq0.true)
 
 pub overflow_mul-result : goal.overflow_mul-result
 overflow_mul-result c =
@@ -37,7 +37,7 @@ overflow_mul-result-2 c =
 pub returns : goal.returns
 unfolding bad_sizes
 returns c =
-    rw (eq-eqb _ _ c.if-state-site.false, eq-eqb _ _ c.if-patterns-ne-DECOMPOSITION.false, eq-eqb _ _ c.if-residuals-rows.false, ne_eqb _ _ c.if-cells-eq0.false)
+    rw (eq-eqb _ _ c.if-sizes-site.false, eq-eqb _ _ c.if-sizes-ne-DECOMPOSITION.false, eq-eqb _ _ c.if-sizes-rows.false, ne_eqb _ _ c.if-sizes-eq0.false)
 
 pub overflow_mul-site : goal.overflow_mul-site
 overflow_mul-site c = omega (arith, mul-le-mul_right c.args.dof c.requires.2)

@@ -6,21 +6,21 @@ use Rattle.plane_bundle.specs.Steps.{shape_refusal}
 use Rattle.plane_bundle.proofs.Laws.{counts_by}
 use Rattle.plane_bundle.proofs.fit_shape.Goals as goal
 
-pub returns-then-counts-eq0 : goal.returns-then-counts-eq0
+pub returns-then-is_empty : goal.returns-then-is_empty
 unfolding shape_refusal
-returns-then-counts-eq0 c = rw (eq-eqb _ _ c.if-counts-eq0.true)
+returns-then-is_empty c = rw (sym c.is_empty.ensures ∙ c.if-is_empty.true)
 
 pub returns-then-bad_points : goal.returns-then-bad_points
 unfolding shape_refusal
 returns-then-bad_points c =
-    rw (ne_eqb _ _ c.if-counts-eq0.false, sym c.bad_points.ensures ∙ c.if-bad_points.true)
+    rw (sym c.is_empty.ensures ∙ c.if-is_empty.false, sym c.bad_points.ensures ∙ c.if-bad_points.true)
 
 pub returns-then-out-ne12 : goal.returns-then-out-ne12
 unfolding shape_refusal
 returns-then-out-ne12 c =
-    rw (ne_eqb _ _ c.if-counts-eq0.false, sym c.bad_points.ensures ∙ c.if-bad_points.false, ne_eqb _ _ c.if-out-ne12.true)
+    rw (sym c.is_empty.ensures ∙ c.if-is_empty.false, sym c.bad_points.ensures ∙ c.if-bad_points.false, ne_eqb _ _ c.if-out-ne12.true)
 
 pub returns : goal.returns
 returns c =
     let a = c.args in
-    c.count_refusal.ensures ∙ counts_by a.counts.now a.points.now a.fixed.now (sym c.bad_points.ensures ∙ c.if-bad_points.false) _ (ap not (eq-eqb _ _ c.if-out-ne12.false)) (ne_eqb _ _ c.if-counts-eq0.false)
+    c.count_refusal.ensures ∙ counts_by a.counts.now a.points.now a.fixed.now (sym c.bad_points.ensures ∙ c.if-bad_points.false) _ (ap not (eq-eqb _ _ c.if-out-ne12.false)) (sym c.is_empty.ensures ∙ c.if-is_empty.false)
