@@ -1,2 +1,3 @@
 pub mod Match
 pub mod Linearize
+pub mod Named

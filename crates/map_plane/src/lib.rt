@@ -6,14 +6,54 @@ ghost use Rattle.refusals.specs.Refusal.{first_of};
 ghost use Rattle.refusals.specs.Number.{number};
 ghost use Rattle.sums.specs.Fill.{First, written};
 ghost use Rattle.lists.specs.Part.{part};
-ghost use Rattle.map_plane.specs.Match.{MATCH, match_reasons};
-ghost use Rattle.map_plane.specs.Linearize.{EXTRINSIC, residual, projected, state_column, whole_row, bad_lengths, bad_row, Linearized};
+ghost use Rattle.std.specs.Float.{binary64};
+ghost use Rattle.std.specs.Float.Ieee.{div};
+ghost use Rattle.map_plane.specs.Match.{MATCH, one, match_reasons};
+ghost use Rattle.map_plane.specs.Named.{match_of, residual_of, row_of};
+ghost use Rattle.map_plane.specs.Linearize.{EXTRINSIC, projected, state_column, bad_lengths, bad_row, Linearized};
 
 use derivative::MOST_DOF;
+use plane::Plane;
 use refusals::Refusal;
 
 // How many numbers a match is: the point, the plane's normal and offset, sigma.
 pub const MATCH: usize = 8;
+
+// A match by its parts. Sigma is the standard deviation of the point's distance from the plane.
+#[derive(Clone, Copy)]
+pub struct Match {
+    pub point: [f64; 3],
+    pub plane: Plane,
+    pub sigma: f64,
+}
+
+impl Match {
+    // The match at a place of a list.
+    #[inline(always)]
+    pub fn read(list: &[f64], at: usize) -> Match
+        requires { at + MATCH ≤ length list.now }
+        ensures { result ≡ match_of (part MATCH list.now at) }
+    {
+        let normal = [list[at + 3], list[at + 4], list[at + 5]];
+        let plane = Plane {
+            normal,
+            offset: list[at + 6],
+        };
+        Match {
+            point: [list[at], list[at + 1], list[at + 2]],
+            plane,
+            sigma: list[at + 7],
+        }
+    }
+
+    // What scales the distance and its derivatives.
+    #[inline(always)]
+    pub fn information(self) -> f64
+        ensures { result ≡ div binary64 one self.sigma }
+    {
+        1.0 / self.sigma
+    }
+}
 
 // The columns of the extrinsic Jacobian.
 const EXTRINSIC: usize = 6;
@@ -39,6 +79,7 @@ pub fn match_refusal(list: &[f64], at: usize) -> Result<(), Refusal>
 }
 
 // nᵀ times column c of a matrix of three rows.
+#[tactic(auto, unfolding(crate::specs::Linearize::projected))]
 fn project(n: [f64; 3], columns: &[f64], c: usize) -> f64
     requires { c * 3 + 3 ≤ length columns.now }
     ensures { result ≡ projected n columns.now c }
@@ -60,10 +101,8 @@ fn write_state(info: f64, n: [f64; 3], columns: &[f64], width: usize, row: &mut 
     requires { (width * 3 ≤ length columns.now) × (width ≤ length row.old) }
     ensures { First width row.new (state_column info n columns.now) × (length row.new ≡ length row.old) }
 {
-    let mut c = 0;
-    while c < width {
+    for c in 0..width {
         row[c] = state_column(info, n, columns, c);
-        c += 1;
     }
 }
 
@@ -72,20 +111,18 @@ fn write_extrinsic(n: [f64; 3], columns: &[f64], from: usize, row: &mut [f64])
     requires { (EXTRINSIC * 3 ≤ length columns.now) × (from + EXTRINSIC ≤ length row.old) }
     ensures { row.new ≡ written row.old from EXTRINSIC (projected n columns.now) }
 {
-    let mut c = 0;
-    while c < EXTRINSIC {
+    for c in 0..EXTRINSIC {
         row[from + c] = project(n, columns, c);
-        c += 1;
     }
 }
 
 // The whole row.
-fn write_row(width: usize, matched: &[f64], d_state: &[f64], d_extrinsic: &[f64], row: &mut [f64])
-    requires { (length matched.now ≡ MATCH) × (width * 3 ≤ length d_state.now) × (EXTRINSIC * 3 ≤ length d_extrinsic.now) × (length row.old ≡ width + EXTRINSIC) }
-    ensures { row.new ≡ whole_row width matched.now d_state.now d_extrinsic.now }
+fn write_row(matched: Match, width: usize, d_state: &[f64], d_extrinsic: &[f64], row: &mut [f64])
+    requires { (width * 3 ≤ length d_state.now) × (EXTRINSIC * 3 ≤ length d_extrinsic.now) × (length row.old ≡ width + EXTRINSIC) }
+    ensures { row.new ≡ row_of matched width d_state.now d_extrinsic.now }
 {
-    let n = lists::three(matched, 3);
-    let info = 1.0 / matched[7];
+    let n = matched.plane.normal;
+    let info = matched.information();
     write_state(info, n, d_state, width, row);
     write_extrinsic(
         [info * n[0], info * n[1], info * n[2]],
@@ -96,16 +133,15 @@ fn write_row(width: usize, matched: &[f64], d_state: &[f64], d_extrinsic: &[f64]
 }
 
 // Information times the distance of the point in the world from the plane.
-fn whitened(matched: &[f64], world: &[f64]) -> f64
-    requires { (length matched.now ≡ MATCH) × (length world.now ≡ 3) }
-    ensures { result ≡ residual matched.now world.now }
+fn whitened(matched: Match, world: [f64; 3]) -> f64
+    ensures { result ≡ residual_of matched world }
 {
-    let n = lists::three(matched, 3);
-    let w = lists::three(world, 0);
-    1.0 / matched[7] * (linear::dot3(n, w) + matched[6])
+    let plane = matched.plane;
+    matched.information() * (linear::dot3(plane.normal, world) + plane.offset)
 }
 
 // 3, of the slices that are read.
+#[tactic(auto, unfolding(crate::specs::Linearize::bad_lengths))]
 fn bad_inputs(width: usize, matched: usize, world: usize, state: usize, extrinsic: usize) -> bool
     requires { width ≤ 9 }
     ensures { result ≡ bad_lengths width matched world state extrinsic }
@@ -123,6 +159,7 @@ fn bad_inputs(width: usize, matched: usize, world: usize, state: usize, extrinsi
 }
 
 // 3, of the row.
+#[tactic(auto, unfolding(crate::specs::Linearize::bad_row))]
 fn bad_row(width: usize, cells: usize) -> bool
     requires { width ≤ 9 }
     ensures { result ≡ bad_row width cells }
@@ -134,6 +171,7 @@ fn bad_row(width: usize, cells: usize) -> bool
 }
 
 // The host's call: the residual, and the row unless it is empty, which means not wanted. Nothing is written where it is refused.
+#[tactic(auto, unfolding(crate::specs::Linearize::linearize_refusal))]
 pub fn linearize(
     dof: u32,
     matched: &[f64],
@@ -165,10 +203,11 @@ pub fn linearize(
         return Err(Refusal::WrongLength);
     }
     match_refusal(matched, 0)?;
-    *residual = whitened(matched, world);
+    let matched = Match::read(matched, 0);
+    *residual = whitened(matched, lists::three(world, 0));
     if row.len() == 0 {
         return Ok(());
     }
-    write_row(width, matched, d_state, d_extrinsic, row);
+    write_row(matched, width, d_state, d_extrinsic, row);
     Ok(())
 }

@@ -2,21 +2,23 @@
 #![tactic(auto)]
 
 ghost use Rattle.std.specs.Prelude.{◌≡◌, ℕ, ◌+◌, ◌*◌, ◌≤◌, ◌<◌, length};
+ghost use Rattle.sums.specs.Sum.{tab};
 ghost use Rattle.sums.specs.Fill.{First};
 ghost use Rattle.derivative.specs.Action.{action_size};
 ghost use Rattle.map_plane.specs.Match.{MATCH};
 ghost use Rattle.match_rows.specs.Row.{residual_of, residual_at, information_at};
 ghost use Rattle.match_rows.specs.ByRows.{by_rows, row_by, row_by_at};
 
-use map_plane::MATCH;
+use derivative::ORIGIN;
+use map_plane::{MATCH, Match};
 
 // The distance from the plane of the point that the action carries into the site, times information.
-pub fn residual(x: &[f64], s: [f64; 3], n: [f64; 3], d: f64, info: f64) -> f64
+pub fn residual(x: &[f64], m: Match, info: f64) -> f64
     requires { length x.now ≡ action_size }
-    ensures { result ≡ residual_of x.now s n d info }
+    ensures { result ≡ residual_of x.now m.point m.plane.normal m.plane.offset info }
 {
-    let w = action::carried(x, s);
-    (linear::dot3(n, w) + d) * info
+    let w = action::carried(x, m.point);
+    (linear::dot3(m.plane.normal, w) + m.plane.offset) * info
 }
 
 // The four matrices of an action's derivative by rows: the numbers that the row's loop reads are then neighbours.
@@ -25,83 +27,58 @@ pub fn by_rows(x: &[f64]) -> [f64; 108]
     ensures { result ≡ by_rows x.now }
 {
     let mut t = [0.0; 108];
-    let mut at = 0;
-    let mut e = 0;
-    while e < 12 {
-        let from = 12 + 27 * (e / 3) + e % 3;
-        let mut c = 0;
-        while c < 9 {
-            t[at] = x[from + 3 * c];
-            at += 1;
-            c += 1;
+    for e in 0..12 {
+        let from = ORIGIN + 27 * (e / 3) + e % 3;
+        for c in 0..9 {
+            t[e * 9 + c] = x[from + 3 * c];
         }
-        e += 1;
     }
     t
 }
 
 // Entry c of a match's row.
-pub fn entry(t: &[f64; 108], s: [f64; 3], n: [f64; 3], info: f64, c: usize) -> f64
+pub fn entry(t: &[f64; 108], m: Match, info: f64, c: usize) -> f64
     requires { c < 9 }
-    ensures { result ≡ row_by t.now s n info c }
+    ensures { result ≡ row_by t.now m.point m.plane.normal info c }
 {
-    let n0 = n[0];
-    let n1 = n[1];
-    let n2 = n[2];
+    let [s0, s1, s2] = m.point;
+    let [n0, n1, n2] = m.plane.normal;
     let p0 = n0 * t[c] + n1 * t[9 + c] + n2 * t[18 + c];
     let p1 = n0 * t[27 + c] + n1 * t[36 + c] + n2 * t[45 + c];
     let p2 = n0 * t[54 + c] + n1 * t[63 + c] + n2 * t[72 + c];
     let p3 = n0 * t[81 + c] + n1 * t[90 + c] + n2 * t[99 + c];
-    (p0 + p1 * s[0] + p2 * s[1] + p3 * s[2]) * info
+    (p0 + p1 * s0 + p2 * s1 + p3 * s2) * info
 }
 
 // The numbers `from` up to `to` of a match's row, where those before are stored already.
-fn row_of(
+#[inline(always)]
+fn fill<const W: usize>(
     t: &[f64; 108],
-    s: [f64; 3],
-    n: [f64; 3],
+    m: Match,
     info: f64,
     from: usize,
     to: usize,
-    row: &mut [f64; 9],
+    row: &mut [f64; W],
 )
-    requires { (from ≤ to) × (to ≤ 9) × (length row.old ≡ 9) × First from row.old (row_by t.now s n info) }
-    ensures { (length row.new ≡ 9) × First to row.new (row_by t.now s n info) }
+    requires { (from ≤ to) × (to ≤ W) × (W ≤ 9) × First from row.old (row_by t.now m.point m.plane.normal info) }
+    ensures { (length row.new ≡ W) × First to row.new (row_by t.now m.point m.plane.normal info) }
 {
-    let mut c = from;
-    while c < to {
-        row[c] = entry(t, s, n, info, c);
-        c += 1;
+    for c in from..to {
+        row[c] = entry(t, m, info, c);
     }
 }
 
-// All nine, in two loops that are short enough for the compiler to unroll.
-fn row_nine(t: &[f64; 108], s: [f64; 3], n: [f64; 3], info: f64, row: &mut [f64; 9])
-    requires { length row.old ≡ 9 }
-    ensures { First 9 row.new (row_by t.now s n info) }
+// The first W numbers of a match's row, in two loops that are short enough for the compiler to unroll.
+#[inline(always)]
+pub fn row<const W: usize>(t: &[f64; 108], m: Match, info: f64) -> [f64; W]
+    requires { W ≤ 9 }
+    ensures { result ≡ tab W (row_by t.now m.point m.plane.normal info) }
 {
-    row_of(t, s, n, info, 0, 6, row);
-    row_of(t, s, n, info, 6, 9, row);
-}
-
-// The first `dof` numbers, with a copy of the code for each width.
-fn row_by(t: &[f64; 108], s: [f64; 3], n: [f64; 3], info: f64, dof: usize, row: &mut [f64; 9])
-    requires { (dof ≤ 9) × (length row.old ≡ 9) }
-    ensures { First dof row.new (row_by t.now s n info) }
-{
-    match dof {
-        0 => row_of(t, s, n, info, 0, 0, row),
-        1 => row_of(t, s, n, info, 0, 1, row),
-        2 => row_of(t, s, n, info, 0, 2, row),
-        3 => row_of(t, s, n, info, 0, 3, row),
-        4 => row_of(t, s, n, info, 0, 4, row),
-        5 => row_of(t, s, n, info, 0, 5, row),
-        6 => row_of(t, s, n, info, 0, 6, row),
-        7 => row_of(t, s, n, info, 0, 7, row),
-        8 => row_of(t, s, n, info, 0, 8, row),
-        9 => row_nine(t, s, n, info, row),
-        _ => row_of(t, s, n, info, 0, dof, row),
-    }
+    let mut row = [0.0; W];
+    let middle = W.min(6);
+    fill(t, m, info, 0, middle, &mut row);
+    fill(t, m, info, middle, W, &mut row);
+    row
 }
 
 // The residual of match k.
@@ -109,10 +86,8 @@ pub fn residual_at(list: &[f64], k: usize, x: &[f64]) -> f64
     requires { (k * MATCH + MATCH ≤ length list.now) × (length x.now ≡ action_size) }
     ensures { result ≡ residual_at x.now list.now k }
 {
-    let at = k * MATCH;
-    let s = [list[at], list[at + 1], list[at + 2]];
-    let n = [list[at + 3], list[at + 4], list[at + 5]];
-    residual(x, s, n, list[at + 6], 1.0 / list[at + 7])
+    let m = Match::read(list, k * MATCH);
+    residual(x, m, m.information())
 }
 
 // The information of match k, 1 / sigma.
@@ -120,16 +95,14 @@ pub fn information_at(list: &[f64], k: usize) -> f64
     requires { k * MATCH + MATCH ≤ length list.now }
     ensures { result ≡ information_at list.now k }
 {
-    1.0 / list[k * MATCH + 7]
+    Match::read(list, k * MATCH).information()
 }
 
-// The first `dof` numbers of the row of match k, whose information is `info`. `t` is the action by rows: made once, it serves every match.
-pub fn row_at(list: &[f64], k: usize, t: &[f64; 108], info: f64, dof: usize, row: &mut [f64; 9])
-    requires { (k * MATCH + MATCH ≤ length list.now) × (dof ≤ 9) × (length row.old ≡ 9) }
-    ensures { First dof row.new (row_by_at t.now list.now k info) }
+// The first W numbers of the row of match k, whose information is `info`. `t` is the action by rows: made once, it serves every match.
+#[inline(always)]
+pub fn row_at<const W: usize>(list: &[f64], k: usize, t: &[f64; 108], info: f64) -> [f64; W]
+    requires { (k * MATCH + MATCH ≤ length list.now) × (W ≤ 9) }
+    ensures { result ≡ tab W (row_by_at t.now list.now k info) }
 {
-    let at = k * MATCH;
-    let s = [list[at], list[at + 1], list[at + 2]];
-    let n = [list[at + 3], list[at + 4], list[at + 5]];
-    row_by(t, s, n, info, dof, row);
+    row(t, Match::read(list, k * MATCH), info)
 }

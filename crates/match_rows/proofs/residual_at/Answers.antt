@@ -4,4 +4,4 @@ use Rattle.match_rows.proofs.residual_at.Goals as goal
 
 pub returns : goal.returns
 unfolding residual_at
-returns c = c.residual.ensures
+returns c = rw (c.residual.ensures, c.information.ensures, c.read-m.ensures)

@@ -4,4 +4,4 @@ use Rattle.match_rows.proofs.row_at.Goals as goal
 
 pub returns : goal.returns
 unfolding row_by_at
-returns c = c.row_by.ensures
+returns g c = rw (c.row.ensures, c.read.ensures)
