@@ -21,121 +21,129 @@ use map_plane::MATCH;
 pub const GROUP: usize = 512;
 
 // Adds `row` times `a` to the first c + 1 cells of column c.
-fn add_column(row: &[f64; 9], a: f64, c: usize, h: &mut [f64; 81])
-    requires { (c < 9) × (length h.old ≡ 81) }
+#[inline(always)]
+fn add_column<const W: usize>(row: &[f64; W], a: f64, c: usize, h: &mut [f64; 81])
+    requires { (c < W) × (W ≤ 9) }
     ensures { Raised (c * 9) (c + 1) (λ i. row.now ! i ⊗ a) h.old h.new }
 {
     let from = c * 9;
-    let mut i = 0;
-    while i <= c {
+    for i in 0..c + 1 {
         let at = from + i;
         h[at] = h[at] + row[i] * a;
-        i += 1;
     }
 }
 
 // Adds the products of a row's numbers to the upper half of h, and those with r to g.
-fn add_row(row: &[f64; 9], r: f64, width: usize, h: &mut [f64; 81], g: &mut [f64; 9])
-    requires { (width ≤ 9) × (length h.old ≡ 81) × (length g.old ≡ 9) }
-    ensures { Added width (squares (λ c. row.now ! c)) (slants (λ c. row.now ! c) r) h.old g.old h.new g.new }
+#[inline(always)]
+fn add_row<const W: usize>(row: &[f64; W], r: f64, h: &mut [f64; 81], g: &mut [f64; 9])
+    requires { W ≤ 9 }
+    ensures { Added W (squares (λ c. row.now ! c)) (slants (λ c. row.now ! c) r) h.old g.old h.new g.new }
 {
-    let mut c = 0;
-    while c < width {
+    for c in 0..W {
         let a = row[c];
         add_column(row, a, c, h);
         g[c] = g[c] + a * r;
-        c += 1;
     }
 }
 
-// The same, with a copy of the code for each width.
-fn add_by(row: &[f64; 9], r: f64, dof: usize, h: &mut [f64; 81], g: &mut [f64; 9])
-    requires { (dof ≤ 9) × (length h.old ≡ 81) × (length g.old ≡ 9) }
-    ensures { Added dof (squares (λ c. row.now ! c)) (slants (λ c. row.now ! c) r) h.old g.old h.new g.new }
-{
-    match dof {
-        0 => add_row(row, r, 0, h, g),
-        1 => add_row(row, r, 1, h, g),
-        2 => add_row(row, r, 2, h, g),
-        3 => add_row(row, r, 3, h, g),
-        4 => add_row(row, r, 4, h, g),
-        5 => add_row(row, r, 5, h, g),
-        6 => add_row(row, r, 6, h, g),
-        7 => add_row(row, r, 7, h, g),
-        8 => add_row(row, r, 8, h, g),
-        9 => add_row(row, r, 9, h, g),
-        _ => add_row(row, r, dof, h, g),
-    }
-}
-
-// How many matches' informations and residuals are worked out before the matches are added.
+// The most matches whose informations and residuals are worked out before the matches are added.
 const BATCH: usize = 16;
 
-// The informations and residuals of a batch of matches from match `from` on: the loop's stores are neighbours, so that the compiler works
-// out two matches at a time.
-fn fill_batch(
-    list: &[f64],
+// The informations and residuals of `size` matches of a list from match `from` on.
+#[derive(Drop)]
+struct Batch {
     from: usize,
     size: usize,
-    x: &[f64],
-    infos: &mut [f64; 16],
-    residuals: &mut [f64; 16],
-)
-    requires { ((from + size) * MATCH ≤ length list.now) × (size ≤ 16) × (length x.now ≡ action_size) × (length infos.old ≡ 16) × (length residuals.old ≡ 16) }
-    ensures { (length infos.new ≡ 16) × (length residuals.new ≡ 16) × First size infos.new (λ k. information_at list.now (from + k)) × First size residuals.new (λ k. residual_at x.now list.now (from + k)) }
-{
-    let mut k = 0;
-    while k < size {
-        infos[k] = match_rows::information_at(list, from + k);
-        residuals[k] = match_rows::residual_at(list, from + k, x);
-        k += 1;
+    infos: [f64; 16],
+    residuals: [f64; 16],
+}
+
+impl Batch {
+    // The loop's stores are neighbours, so that the compiler works out two matches at a time.
+    fn of(list: &[f64], from: usize, size: usize, x: &[f64]) -> Batch
+        requires { ((from + size) * MATCH ≤ length list.now) × (size ≤ 16) × (length x.now ≡ action_size) }
+        ensures { (result.from ≡ from) × (result.size ≡ size) × First size result.infos (λ k. information_at list.now (from + k)) × First size result.residuals (λ k. residual_at x.now list.now (from + k)) }
+    {
+        let mut infos = [0.0; 16];
+        let mut residuals = [0.0; 16];
+        for k in 0..size {
+            infos[k] = match_rows::information_at(list, from + k);
+            residuals[k] = match_rows::residual_at(list, from + k, x);
+        }
+        Batch {
+            from,
+            size,
+            infos,
+            residuals,
+        }
     }
 }
 
-// Adds match k, whose information and residual are worked out.
-fn add_match(
+// Adds match k, whose information and residual are worked out, with the first W numbers of its row.
+#[inline(always)]
+fn add_match<const W: usize>(
     list: &[f64],
     k: usize,
     t: &[f64; 108],
-    dof: usize,
     info: f64,
     r: f64,
     h: &mut [f64; 81],
     g: &mut [f64; 9],
 )
-    requires { (k * MATCH + MATCH ≤ length list.now) × (dof ≤ 9) × (length h.old ≡ 81) × (length g.old ≡ 9) }
-    ensures { Added dof (squares (row_by_at t.now list.now k info)) (slants (row_by_at t.now list.now k info) r) h.old g.old h.new g.new }
+    requires { (k * MATCH + MATCH ≤ length list.now) × (W ≤ 9) }
+    ensures { Added W (squares (row_by_at t.now list.now k info)) (slants (row_by_at t.now list.now k info) r) h.old g.old h.new g.new }
 {
-    let mut row = [0.0; 9];
-    match_rows::row_at(list, k, t, info, dof, &mut row);
-    add_by(&row, r, dof, h, g);
+    let row = match_rows::row_at::<W>(list, k, t, info);
+    add_row(&row, r, h, g);
 }
 
-// Adds the matches of a batch, whose numbers are filled, and gives the cost with their squared residuals.
-fn add_batch(
+// Adds the matches of a batch, and gives the cost with their squared residuals.
+fn add_batch<const W: usize>(
     list: &[f64],
-    from: usize,
-    size: usize,
+    b: &Batch,
     t: &[f64; 108],
-    dof: usize,
-    infos: &[f64; 16],
-    residuals: &[f64; 16],
     h: &mut [f64; 81],
     g: &mut [f64; 9],
     cost: f64,
 ) -> f64
-    requires { ((from + size) * MATCH ≤ length list.now) × (size ≤ 16) × (dof ≤ 9) × (length h.old ≡ 81) × (length g.old ≡ 9) }
-    ensures { (result ≡ sum_from cost size (batch_cost residuals.now)) × Summed dof size (batch_block t.now list.now from infos.now) (batch_vector t.now list.now from infos.now residuals.now) h.old g.old h.new g.new }
+    requires { ((b.now.from + b.now.size) * MATCH ≤ length list.now) × (b.now.size ≤ 16) × (W ≤ 9) }
+    ensures { (result ≡ sum_from cost b.now.size (batch_cost b.now.residuals)) × Summed W b.now.size (batch_block t.now list.now b.now.from b.now.infos) (batch_vector t.now list.now b.now.from b.now.infos b.now.residuals) h.old g.old h.new g.new }
 {
     let mut sum = cost;
-    let mut k = 0;
-    while k < size {
-        let r = residuals[k];
-        add_match(list, from + k, t, dof, infos[k], r, h, g);
+    for k in 0..b.size {
+        let r = b.residuals[k];
+        add_match::<W>(list, b.from + k, t, b.infos[k], r, h, g);
         sum = sum + r * r;
-        k += 1;
     }
     sum
+}
+
+// The same with the first `dof` numbers of each row: a copy of the code for each width.
+fn add_batch_by(
+    list: &[f64],
+    b: &Batch,
+    t: &[f64; 108],
+    dof: usize,
+    h: &mut [f64; 81],
+    g: &mut [f64; 9],
+    cost: f64,
+) -> f64
+    requires { ((b.now.from + b.now.size) * MATCH ≤ length list.now) × (b.now.size ≤ 16) × (dof ≤ 9) }
+    ensures { (result ≡ sum_from cost b.now.size (batch_cost b.now.residuals)) × Summed dof b.now.size (batch_block t.now list.now b.now.from b.now.infos) (batch_vector t.now list.now b.now.from b.now.infos b.now.residuals) h.old g.old h.new g.new }
+{
+    match dof {
+        0 => add_batch::<0>(list, b, t, h, g, cost),
+        1 => add_batch::<1>(list, b, t, h, g, cost),
+        2 => add_batch::<2>(list, b, t, h, g, cost),
+        3 => add_batch::<3>(list, b, t, h, g, cost),
+        4 => add_batch::<4>(list, b, t, h, g, cost),
+        5 => add_batch::<5>(list, b, t, h, g, cost),
+        6 => add_batch::<6>(list, b, t, h, g, cost),
+        7 => add_batch::<7>(list, b, t, h, g, cost),
+        8 => add_batch::<8>(list, b, t, h, g, cost),
+        9 => add_batch::<9>(list, b, t, h, g, cost),
+        _ => unreachable!(),
+    }
 }
 
 // Adds `size` matches from `from` on, batch after batch, and gives the sum of their squared residuals.
@@ -149,31 +157,25 @@ fn add_group(
     h: &mut [f64; 81],
     g: &mut [f64; 9],
 ) -> f64
-    requires { ((from + size) * MATCH ≤ length list.now) × (length x.now ≡ action_size) × (t.now ≡ by_rows x.now) × (dof ≤ 9) × (length h.old ≡ 81) × (length g.old ≡ 9) }
+    requires { ((from + size) * MATCH ≤ length list.now) × (length x.now ≡ action_size) × (t.now ≡ by_rows x.now) × (dof ≤ 9) }
     ensures { (result ≡ sum_from zero_f size (λ k. cost_term x.now list.now (from + k))) × Summed dof size (λ i j k. block_term x.now list.now i j (from + k)) (λ i k. vector_term x.now list.now i (from + k)) h.old g.old h.new g.new }
 {
     let mut cost = 0.0;
-    let mut infos = [0.0; 16];
-    let mut residuals = [0.0; 16];
     let mut i = 0;
     while i < size {
-        let b = lists::batch_size(size, i, BATCH);
-        fill_batch(list, from + i, b, x, &mut infos, &mut residuals);
-        cost = add_batch(list, from + i, b, t, dof, &infos, &residuals, h, g, cost);
-        i = i + b;
+        let b = Batch::of(list, from + i, lists::batch_size(size, i, BATCH), x);
+        cost = add_batch_by(list, &b, t, dof, h, g, cost);
+        i += b.size;
     }
     cost
 }
 
 // b added to a, number by number.
-fn add_numbers(b: &[f64], a: &mut [f64])
-    requires { length a.old ≡ length b.now }
+fn add_numbers<const N: usize>(b: &[f64; N], a: &mut [f64; N])
     ensures { Raised 0 (length b.now) (λ k. b.now ! k) a.old a.new }
 {
-    let mut i = 0;
-    while i < b.len() {
+    for i in 0..N {
         a[i] = a[i] + b[i];
-        i += 1;
     }
 }
 
@@ -207,7 +209,7 @@ fn add_group_sums(
     h: &mut [f64; 81],
     g: &mut [f64; 9],
 ) -> f64
-    requires { (q * GROUP < match_count list.now) × (length x.now ≡ action_size) × (t.now ≡ by_rows x.now) × (dof ≤ 9) × (length h.old ≡ 81) × (length g.old ≡ 9) }
+    requires { (q * GROUP < match_count list.now) × (length x.now ≡ action_size) × (t.now ≡ by_rows x.now) × (dof ≤ 9) }
     ensures { (result ≡ group_sum (match_count list.now) (cost_term x.now list.now) q) × Added dof (λ i j. group_sum (match_count list.now) (block_term x.now list.now i j) q) (λ i. group_sum (match_count list.now) (vector_term x.now list.now i) q) h.old g.old h.new g.new }
 {
     let n = list.len() / MATCH;
@@ -230,17 +232,13 @@ fn add_groups(
     h: &mut [f64; 81],
     g: &mut [f64; 9],
 ) -> f64
-    requires { (length x.now ≡ action_size) × (t.now ≡ by_rows x.now) × (dof ≤ 9) × (length h.old ≡ 81) × (length g.old ≡ 9) }
+    requires { (length x.now ≡ action_size) × (t.now ≡ by_rows x.now) × (dof ≤ 9) }
     ensures { (result ≡ list_cost x.now list.now) × Summed dof (groups (match_count list.now)) (λ i j. group_sum (match_count list.now) (block_term x.now list.now i j)) (λ i. group_sum (match_count list.now) (vector_term x.now list.now i)) h.old g.old h.new g.new }
 {
     let n = list.len() / MATCH;
-    let count = group_count(n);
     let mut cost = 0.0;
-    let mut q = 0;
-    while q < count {
-        let c = add_group_sums(list, q, x, t, dof, h, g);
-        cost = cost + c;
-        q += 1;
+    for q in 0..group_count(n) {
+        cost = cost + add_group_sums(list, q, x, t, dof, h, g);
     }
     cost
 }
@@ -261,17 +259,10 @@ fn mirrored(h: &[f64; 81]) -> [f64; 81]
     ensures { result ≡ grid 9 9 (λ i j. h.now ! upper_place i j) }
 {
     let mut out = [0.0; 81];
-    let mut at = 0;
-    let mut j = 0;
-    while j < 9 {
-        let mut i = 0;
-        while i < 9 {
-            let p = upper_place(i, j);
-            out[at] = h[p];
-            at += 1;
-            i += 1;
+    for j in 0..9 {
+        for i in 0..9 {
+            out[j * 9 + i] = h[upper_place(i, j)];
         }
-        j += 1;
     }
     out
 }
@@ -306,11 +297,9 @@ fn group_cost(list: &[f64], from: usize, size: usize, x: &[f64]) -> f64
     ensures { result ≡ sum_from zero_f size (λ k. cost_term x.now list.now (from + k)) }
 {
     let mut cost = 0.0;
-    let mut i = 0;
-    while i < size {
-        let r = match_rows::residual_at(list, from + i, x);
+    for k in 0..size {
+        let r = match_rows::residual_at(list, from + k, x);
         cost = cost + r * r;
-        i += 1;
     }
     cost
 }
@@ -321,14 +310,9 @@ pub fn cost(list: &[f64], x: &[f64]) -> f64
     ensures { result ≡ list_cost x.now list.now }
 {
     let n = list.len() / MATCH;
-    let count = group_count(n);
     let mut cost = 0.0;
-    let mut q = 0;
-    while q < count {
-        let size = group_size(n, q);
-        let c = group_cost(list, q * GROUP, size, x);
-        cost = cost + c;
-        q += 1;
+    for q in 0..group_count(n) {
+        cost = cost + group_cost(list, q * GROUP, group_size(n, q), x);
     }
     cost
 }

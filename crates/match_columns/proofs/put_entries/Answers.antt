@@ -31,13 +31,13 @@ pub loop-e-preserved : goal.loop-e-preserved
 loop-e-preserved c =
     let a = c.args in
     let ends = column_ends a.rows (a.c + a.w) (a.c + c.loop-e.e) (omega arith) in
-    let put = put_more a.rows a.k a.c c.loop-e.e _ _ c.loop-e.out _ (search rules) (omega (arith, ends)) c.entry.ensures c.loop-e.invariant.2 in
-    (search rules, put.size, put)
+    let put = put_more a.rows a.k a.c c.loop-e.e _ _ c.loop-e.out _ (search rules) (omega (arith, ends)) c.entry.ensures c.loop-e.invariant.1 in
+    (put.size, put)
 
 pub returns : goal.returns
 returns c =
     let e : c.args.w ≡ c.loop-e.e = omega arith in
-    rw e c.loop-e.invariant.2
+    rw e c.loop-e.invariant.1
 
 pub loop-e-init : goal.loop-e-init
-loop-e-init c = (search rules, search rules, put-none _ _ _ _ _)
+loop-e-init c = (search rules, put-none _ _ _ _ _)

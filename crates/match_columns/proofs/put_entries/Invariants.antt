@@ -1,4 +1,3 @@
-use Prim.Native.Nat.{◌-◌, ◌≤◌}
 use mathlib.Core.Path.{◌≡◌}
 use lib.ListN.{length}
 use Rattle.match_rows.specs.ByRows.{row_by}
@@ -6,7 +5,4 @@ use Rattle.match_columns.specs.Columns.{Put}
 use Rattle.match_columns.proofs.put_entries.Given as goal
 
 abbrev pub invariant-loop-e : goal.invariant-loop-e
-invariant-loop-e l = (l.e ≤ l.w) × (length l.out ≡ length l.initial.out) × Put l.rows l.k l.c l.e (row_by l.t l.s l.n l.info) l.initial.out l.out
-
-abbrev pub decreases-loop-e : goal.decreases-loop-e
-decreases-loop-e l = l.w - l.e
+invariant-loop-e l = (length l.out ≡ length l.initial.out) × Put l.rows l.k l.c l.e (row_by l.t l.m.point l.m.plane.normal l.info) l.initial.out l.out

@@ -1,22 +1,43 @@
--- `match_columns::write_first` meets its contract: by the width. Assumes nothing.
-use mathlib.Core.Path.{sym}
-use native.Mathlib.Nat.{mul-le-mul_right, le_of_eq}
+-- `match_columns::write_first` meets its contract: match after match, its residual and its entries. Assumes nothing.
+use Prim.Native.Nat.{◌+◌, ◌-◌, ◌<◌}
+use mathlib.Core.Path.{◌≡◌, refl}
+use native.Mathlib.Nat.{zero-add, mul-le-mul_right}
 use native.Mathlib.Omega.{arith}
 use borrow.Author.Rules.{rules}
-use Rattle.match_columns.specs.Columns.{grown_none}
+use Rattle.sums.specs.Sum.{◌⊕◌, ◌⊗◌}
+use Rattle.match_rows.specs.Row.{residual_at}
+use Rattle.match_columns.specs.Columns.{filled_put}
+use Rattle.match_columns.specs.Residuals.{rows_by, begun_none, begun_more, begun_all}
 use Rattle.match_columns.proofs.write_first.Goals as goal
 
-pub first_seven-requires : goal.first_seven-requires
-first_seven-requires c =
-    (search rules, search rules, search rules, omega (arith, mul-le-mul_right c.args.rows (le_of_eq (sym c.if-dof-eq7.true)), c.requires.3))
+pub loop-k-init : goal.loop-k-init
+loop-k-init g c = begun_none _ _ _ _ g.row.W c.args.residual.now _ c.requires.2
 
-pub first_six-requires : goal.first_six-requires
-first_six-requires c =
-    (search rules, search rules, search rules, omega (arith, mul-le-mul_right c.args.rows c.if-dof-ge6.true, c.requires.3))
+pub put_entries-requires : goal.put_entries-requires
+put_entries-requires g c =
+    (search rules, omega arith, omega (arith, mul-le-mul_right c.args.rows c.requires.3, c.requires.5, c.loop-k.invariant.2))
 
-pub first_three-requires : goal.first_three-requires
-first_three-requires c =
-    (search rules, search rules, search rules, omega (arith, mul-le-mul_right c.args.rows c.if-dof-ge3.true, c.requires.3))
+pub put_entries-requires-in-loop-k : goal.put_entries-requires-in-loop-k
+put_entries-requires-in-loop-k g c =
+    let e : 3 + (g.row.W - 3) ≡ g.row.W = omega arith in
+    (search rules, omega arith, rw e (omega (arith, c.requires.5, c.loop-k.invariant.2, c.put_entries.ensures.size)))
+
+pub loop-k-preserved : goal.loop-k-preserved
+unfolding rows_by residual_at
+loop-k-preserved g c =
+    let a = c.args in
+    let turn : c.loop-k.k < a.rows = omega arith in
+    let n = g.row.W in
+    let f = rows_by a.t.now a.list.now in
+    let r : (c.dot3.result ⊕ c.read-m.result.plane.offset) ⊗ c.information-info.result ≡ residual_at a.x.now a.list.now c.loop-k.k = rw (c.dot3.ensures, c.plus3-w.ensures, c.mat_vec.ensures, c.matrix-a.ensures, c.shift-b.ensures, c.information-info.ensures, c.read-m.ensures) in
+    let one = rw (c.information-info.ensures, c.read-m.ensures) at c.put_entries.ensures in
+    let two = rw (c.information-info.ensures, c.read-m.ensures) at c.put_entries-in-loop-k.ensures in
+    let some = filled_put a.rows 0 n c.loop-k.k 0 0 3 f _ c.loop-k.out _ turn refl (omega arith) one c.loop-k.invariant.4 in
+    let e : 3 + (n - 3) ≡ n = omega arith in
+    let row = rw e at (filled_put a.rows 0 n c.loop-k.k 3 3 (n - 3) f _ _ _ turn refl (omega arith) two some) in
+    begun_more a.x.now a.t.now a.list.now a.rows n c.loop-k.k c.loop-k.residual _ c.loop-k.out _ _ turn r row c.loop-k.invariant
 
 pub returns : goal.returns
-returns c = (search rules, search rules, grown_none _ _ _ _)
+returns g c =
+    let a = c.args in
+    rw (zero-add g.row.W) at (begun_all a.x.now a.t.now a.list.now a.rows g.row.W c.loop-k.k c.loop-k.residual _ c.loop-k.out c.requires.0 c.loop-k-test.false c.loop-k.invariant)

@@ -5,14 +5,14 @@ use native.Mathlib.Omega.{arith}
 use borrow.Author.Rules.{rules}
 use Rattle.match_columns.proofs.write_next.Goals as goal
 
-pub write_three-requires : goal.write_three-requires
-write_three-requires c =
+pub write_columns-requires : goal.write_columns-requires
+write_columns-requires c =
     let a = c.args in
     let h : a.c + 3 ≤ a.dof = c.if-c-dof.true in
     (search rules, omega arith, omega (arith, mul-le-mul_right a.rows h, c.requires.3))
 
-pub write_one-requires : goal.write_one-requires
-write_one-requires c =
+pub write_columns-requires-2 : goal.write_columns-requires-2
+write_columns-requires-2 c =
     let a = c.args in
     let h : a.c + 1 ≤ a.dof = omega arith in
     (search rules, omega arith, omega (arith, mul-le-mul_right a.rows h, c.requires.3))

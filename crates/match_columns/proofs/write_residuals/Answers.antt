@@ -12,14 +12,14 @@ use Rattle.match_columns.proofs.write_residuals.Goals as goal
 pub loop-k-preserved : goal.loop-k-preserved
 loop-k-preserved c =
     let at = c.loop-k in
-    (search rules, search rules, first_more at.residual _ at.k _ (omega arith) c.residual_at.ensures at.invariant.2)
+    (search rules, first_more at.residual _ at.k _ (omega arith) c.residual_at.ensures at.invariant.1)
 
 pub returns : goal.returns
 returns c =
     let at = c.loop-k in
     let a = c.args in
     let e : at.k ≡ length a.list.now / MATCH = omega arith in
-    first_all _ at.residual (residual_at a.x.now a.list.now) at.invariant.1 (rw e at at.invariant.2)
+    first_all _ at.residual (residual_at a.x.now a.list.now) at.invariant.0 (rw e at at.invariant.1)
 
 pub loop-k-init : goal.loop-k-init
-loop-k-init c = (search rules, search rules, first-none c.args.residual.now _)
+loop-k-init c = (search rules, first-none c.args.residual.now _)

@@ -8,23 +8,21 @@ use borrow.Author.Rules.{rules}
 use Rattle.match_sums.proofs.add_batch.Goals as goal
 
 pub loop-k-init : goal.loop-k-init
-loop-k-init c = (search rules, search rules, search rules, refl, summed_none _ _ _ _ _)
+loop-k-init g c = (search rules, search rules, refl, summed_none _ _ _ _ _)
 
 pub loop-k-preserved : goal.loop-k-preserved
 unfolding batch_cost batch_block batch_vector
-loop-k-preserved c =
+loop-k-preserved g c =
     let at = c.loop-k in
-    let a = c.args in
     let did = c.add_match.ensures in (
-      search rules,
       omega (arith, did.size),
       omega (arith, did.long),
-      rw (sum_from_more _ at.k _, at.invariant.3),
-      summed_more a.dof at.k _ _ _ _ _ _ _ _ at.invariant.4 did,
+      rw (sum_from_more _ at.k _, at.invariant.2),
+      summed_more g.row.W at.k _ _ _ _ _ _ _ _ at.invariant.3 did,
     )
 
 pub returns : goal.returns
-returns c =
+returns g c =
     let at = c.loop-k in
-    let e : c.args.size ≡ at.k = omega arith in
-    rw e (at.invariant.3, at.invariant.4)
+    let e : c.args.b.now.size ≡ at.k = omega arith in
+    rw e (at.invariant.2, at.invariant.3)

@@ -14,7 +14,7 @@ pub add_group-cost-requires : goal.add_group-cost-requires
 add_group-cost-requires c =
     let a = c.args in
     let fits = group_size_fits (match_count a.list.now) a.q (search rules) in
-    (omega (arith, fits, c.group_size-size.ensures), search rules, search rules, search rules, search rules, search rules)
+    (omega (arith, fits, c.group_size-size.ensures), search rules, search rules, search rules)
 
 pub returns : goal.returns
 unfolding group_sum

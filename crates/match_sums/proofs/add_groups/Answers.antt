@@ -8,18 +8,17 @@ use borrow.Author.Rules.{rules}
 use Rattle.match_sums.proofs.add_groups.Goals as goal
 
 pub loop-q-init : goal.loop-q-init
-loop-q-init c = (search rules, search rules, search rules, refl, summed_none _ _ _ _ _)
+loop-q-init c = (search rules, search rules, refl, summed_none _ _ _ _ _)
 
 pub loop-q-preserved : goal.loop-q-preserved
 loop-q-preserved c =
     let at = c.loop-q in
     let a = c.args in
-    let did = c.add_group_sums-c.ensures in (
-      search rules,
+    let did = c.add_group_sums-cost.ensures in (
       omega (arith, did.1.size),
       omega (arith, did.1.long),
-      rw (sum_from_more _ at.q _, did.0, at.invariant.3),
-      summed_more a.dof at.q _ _ _ _ _ _ _ _ at.invariant.4 did.1,
+      rw (sum_from_more _ at.q _, did.0, at.invariant.2),
+      summed_more a.dof at.q _ _ _ _ _ _ _ _ at.invariant.3 did.1,
     )
 
 pub returns : goal.returns
@@ -27,4 +26,4 @@ unfolding list_cost by_groups
 returns c =
     let at = c.loop-q in
     let e : at.q ≡ groups (match_count c.args.list.now) = omega arith in
-    (rw e at at.invariant.3, rw e at at.invariant.4)
+    (rw e at at.invariant.2, rw e at at.invariant.3)

@@ -8,15 +8,15 @@ use borrow.Author.Rules.{rules}
 use Rattle.match_sums.proofs.add_numbers.Goals as goal
 
 pub loop-i-init : goal.loop-i-init
-loop-i-init c = (search rules, search rules, raised_none _ _ _)
+loop-i-init g c = (search rules, raised_none _ _ _)
 
 pub loop-i-preserved : goal.loop-i-preserved
-loop-i-preserved c =
+loop-i-preserved g c =
     let at = c.loop-i in
     let b = c.args.b.now in
-    (search rules, search rules, raised_at at.i (λ k. b ! k) _ at.a _ (omega arith) refl at.invariant.2)
+    (search rules, raised_at at.i (λ k. b ! k) _ at.a _ (omega arith) refl at.invariant.1)
 
 pub returns : goal.returns
-returns c =
+returns g c =
     let e : c.loop-i.i ≡ length c.args.b.now = omega arith in
-    rw e at c.loop-i.invariant.2
+    rw e at c.loop-i.invariant.1
