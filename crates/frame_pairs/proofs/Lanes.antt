@@ -4,6 +4,8 @@ use native.Mathlib.Nat.{not-suc-le-zero, add-zero, mul-le-mul_left}
 use native.Mathlib.Omega.{arith}
 use mathlib.Core.Path.{◌≡◌, refl, ◌∙◌}
 use mathlib.Core.Logic.{◌≢◌}
+use Rattle.std.specs.Prelude.{◌⊎◌}
+use Rattle.std.proofs.Common.{inl, inr}
 use mathlib.Core.List.{List}
 use lib.ListN.{length, set, length-set}
 use lib.Seq.{get_or-set_same, get_or-set_other}
@@ -13,7 +15,7 @@ use Rattle.lists.specs.Part.{◌!◌}
 use Rattle.block_transforms.specs.Transform.{ROOM, entry_from}
 use Rattle.point_moments.specs.declared.scatter.Centred.{Centred}
 use Rattle.plane_fit.specs.Fit.{frame_at, action_at}
-use Rattle.frame_pairs.specs.Pairs.{lane, Put, block_in, vector_in, cost_in, Holds, Part, PARTS, Parts}
+use Rattle.frame_pairs.specs.Pairs.{lane, Put, Columns, block_in, vector_in, cost_in, Holds, Part, PARTS, Parts}
 
 -- ---- a loop that puts: before its first turn, and after one more
 module _ (k e : ℕ) (v : ℕ → Float) (cells₀ : List Float) where
@@ -33,11 +35,16 @@ module _ (k e : ℕ) (v : ℕ → Float) (cells₀ : List Float) where
         other = λ j d b o. get_or-set_other cells place (2 * d + j) w nan (λ q. o (omega arith)) ∙ p.other j d b o;
       }
 
--- ---- a part of so many columns: its block, of entries f, after the first columns, over what was there
-pub record Columns (cols k : ℕ) (f : ℕ → ℕ → Float) (cells₀ : List Float) (j : ℕ) (cells : List Float) : Type 0 where
-  pub long : length cells ≡ length cells₀
-  pub block : (d : ℕ) → d < j → (i : ℕ) → i < cols → block_in cols cells k i d ≡ f i d
-  pub other : (l d : ℕ) → l < 2 → l ≢ k → lane cells l d ≡ lane cells₀ l d
+-- ---- a part of three or five columns
+
+-- the numbers of a pair fit in memory
+pub parts_fit : (cols n : ℕ) → (cols ≡ 3) ⊎ (cols ≡ 5) → n ≡ PARTS cols → n * 8 < 9223372036854775808
+parts_fit cols n (inl three) e = rw (e, three) (omega arith)
+parts_fit cols n (inr five) e = rw (e, five) (omega arith)
+
+pub five_else : (cols : ℕ) → (cols ≡ 3) ⊎ (cols ≡ 5) → cols ≢ 3 → cols ≡ 5
+five_else cols (inl three) not-three = absurd (not-three three)
+five_else cols (inr five) not-three = five
 
 -- the whole part: block, vector and cost
 pub record Whole (cols k : ℕ) (f : ℕ → ℕ → Float) (g : ℕ → Float) (x : Float) (cells₀ cells : List Float) : Type 0 where
@@ -50,6 +57,9 @@ pub record Whole (cols k : ℕ) (f : ℕ → ℕ → Float) (g : ℕ → Float) 
 module _ (cols k : ℕ) (f : ℕ → ℕ → Float) (cells₀ : List Float) where
   pub columns-none : Columns cols k f cells₀ 0 cells₀
   columns-none = record { long = refl; block = λ d l. absurd (not-suc-le-zero l); other = λ l d b o. refl }
+
+  pub columns-all : {j : ℕ} {cells : List Float} → j ≡ cols → Columns cols k f cells₀ j cells → Columns cols k f cells₀ cols cells
+  columns-all e p = rw e at p
 
   -- numbers that are put behind the first columns leave these
   kept : (j e width : ℕ) (v : ℕ → Float) {cells cells' : List Float} → e ≡ cols * j → Put k e width v cells cells' → (d : ℕ) → d < j → (i : ℕ) → i < cols → block_in cols cells' k i d ≡ block_in cols cells k i d

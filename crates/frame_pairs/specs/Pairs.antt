@@ -45,6 +45,12 @@ vector_in cols cells k i = lane cells k (cols * cols + i)
 unfoldable pub cost_in : ℕ → List Float → ℕ → Float
 cost_in cols cells k = lane cells k (cols * cols + cols)
 
+-- the first columns of frame k's block have the entries f, over what was there; the other frame's numbers stayed
+pub record Columns (cols k : ℕ) (f : ℕ → ℕ → Float) (cells₀ : List Float) (j : ℕ) (cells : List Float) : Type 0 where
+  pub long : length cells ≡ length cells₀
+  pub block : (d : ℕ) → d < j → (i : ℕ) → i < cols → block_in cols cells k i d ≡ f i d
+  pub other : (l d : ℕ) → l < 2 → l ≢ k → lane cells l d ≡ lane cells₀ l d
+
 -- frame k's part is that of a frame through its transform
 pub record Holds (cols : ℕ) (t : ℕ → ℕ → Float) (x : List Float) (f : Centred) (n : List Float) (offset weight : Float) (k : ℕ) (cells : List Float) : Type 0 where
   pub block : (i j : ℕ) → i < cols → j < cols → block_in cols cells k i j ≡ transformed_block 6 t (block_entry x f n weight) i j

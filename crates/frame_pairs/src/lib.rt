@@ -1,10 +1,10 @@
 // Frames of six columns through transforms of three or of five columns, two frames at a time: what each adds and costs is worked out side by side, number e of
 // frame k of the pair at 2·e + k, so that the compiler makes one vector of the two. Then one frame's numbers are added after the other's.
 // The parts of a pair are made by value, in an array of their own, so that the compiler need not test whether they overlap what they are made of. The number of
-// columns stands in the code, so that it unrolls the loops: what differs in that number alone is written for three and for five.
+// columns is a const parameter, so that it unrolls the loops.
 #![tactic(auto)]
 
-ghost use Rattle.std.specs.Prelude.{◌≡◌, false, ℕ, ◌+◌, ◌*◌, ◌^◌, ◌<◌, ◌≤◌, length};
+ghost use Rattle.std.specs.Prelude.{◌≡◌, ◌⊎◌, false, ℕ, ◌+◌, ◌*◌, ◌^◌, ◌<◌, ◌≤◌, length};
 ghost use Rattle.sums.specs.Sum.{◌⊗◌, sum_to};
 ghost use Rattle.sums.specs.Fill.{padded};
 ghost use Rattle.lists.specs.Part.{◌!◌};
@@ -13,52 +13,17 @@ ghost use Rattle.normal_blocks.specs.Target.{number_from};
 ghost use Rattle.normal_blocks.specs.Map.{lookup, exceeds};
 ghost use Rattle.derivative.specs.Action.{action_size};
 ghost use Rattle.point_moments.specs.Scatter.{CENTRED};
-ghost use Rattle.frame_segment.specs.Steps.{rows_entry};
 ghost use Rattle.block_transforms.specs.Transform.{ROOM, entry_from, transformed_vector};
-ghost use Rattle.frame_pairs.specs.Pairs.{of_six, lane, Put, Part, Parts, block_in, RunReady, PartsAdded, RunAdded};
+ghost use Rattle.frame_pairs.specs.Pairs.{of_six, lane, Put, Columns, Part, PARTS, Parts, block_in, RunReady, PartsAdded, RunAdded};
 
 use block_transforms::TRANSFORM;
-use derivative::{ACTION, AXIS_X, AXIS_Y, AXIS_Z, ORIGIN};
-use normal_blocks::Place;
+use derivative::ACTION;
+use frame_segment::Rows;
+use plane::Plane;
 use point_moments::scatter::{CENTRED, Centred};
 
 // How many frames are worked out side by side.
 const PAIR: usize = 2;
-
-// The three rows of D, the three of P = DᵀS, and m.
-#[derive(Clone, Copy)]
-struct Rows(
-    [f64; 9],
-    [f64; 9],
-    [f64; 9],
-    [f64; 9],
-    [f64; 9],
-    [f64; 9],
-    [f64; 9],
-);
-
-// Column j of the block.
-fn block_column(r: Rows, j: usize, count: f64, weight: f64, width: usize) -> [f64; 9]
-    requires { (j < 9) × (width ≤ 9) }
-    ensures { result ≡ padded 9 width (λ i. rows_entry r.0 r.1 r.2 r.3 r.4 r.5 r.6 count weight i j) }
-{
-    let d0 = r.0;
-    let d1 = r.1;
-    let d2 = r.2;
-    let p0 = r.3;
-    let p1 = r.4;
-    let p2 = r.5;
-    let m = r.6;
-    let s0 = d0[j];
-    let s1 = d1[j];
-    let s2 = d2[j];
-    let t = m[j];
-    let mut column = [0.0; 9];
-    for i in 0..width {
-        column[i] = (p0[i] * s0 + p1[i] * s1 + p2[i] * s2 + m[i] * t * count) * weight;
-    }
-    column
-}
 
 // Σ_r t_r · x_r, with so many numbers of t from `from` on.
 fn dot(t: &[f64], from: usize, x: [f64; 9], rows: usize) -> f64
@@ -122,154 +87,75 @@ fn put(cells: &mut [f64], k: usize, e: usize, v: [f64; 9], width: usize)
     }
 }
 
-// The part of frame k of the pair, through a transform of three columns: its block by columns, its vector, its cost.
-fn part_by_three(
+// The columns of Tᵀ·M·T become those of frame k's part. A loop over so many products would not be unrolled.
+#[inline(always)]
+fn put_columns<const COLS: usize>(cells: &mut [f64], k: usize, u: Six, t: &[f64], at: usize)
+    requires { ((COLS ≡ 3) ⊎ (COLS ≡ 5)) × (k < 2) × (at + 6 * COLS ≤ length t.now) × (2 * (COLS * COLS) ≤ length cells.old) }
+    ensures { Columns COLS k (λ i j. sum_to 6 (λ q. (of_six u.0 u.1 u.2 u.3 u.4 u.5 q ! i) ⊗ entry_from t.now at 6 q j)) cells.old COLS cells.new }
+{
+    put(cells, k, 0, right(u, t, at, COLS), COLS);
+    put(cells, k, COLS, right(u, t, at + 6, COLS), COLS);
+    put(cells, k, 2 * COLS, right(u, t, at + 12, COLS), COLS);
+    if COLS == 3 {
+        return;
+    }
+    put(cells, k, 3 * COLS, right(u, t, at + 18, COLS), COLS);
+    put(cells, k, 4 * COLS, right(u, t, at + 24, COLS), COLS);
+}
+
+// The part of frame k of the pair, through its transform: its block by columns, its vector, its cost.
+#[inline(always)]
+fn part<const COLS: usize>(
     x: &[f64],
     f: Centred,
     t: &[f64],
     at: usize,
-    normal: [f64; 3],
-    offset: f64,
+    plane: Plane,
     weight: f64,
     k: usize,
     cells: &mut [f64],
 )
-    requires { (length x.now ≡ action_size) × (at + 18 ≤ length t.now) × (k < 2) × (length cells.old ≡ 26) × (at + 18 < 2 ^ 64) }
-    ensures { Part 3 (entry_from t.now at 6) x.now f normal offset weight k cells.old cells.new }
+    requires { ((COLS ≡ 3) ⊎ (COLS ≡ 5)) × (length x.now ≡ action_size) × (at + 6 * COLS ≤ length t.now) × (k < 2) × (length cells.old ≡ PARTS COLS) }
+    ensures { Part COLS (entry_from t.now at 6) x.now f plane.normal plane.offset weight k cells.old cells.new }
 {
-    let mean = f.mean;
-    let c = f.scatter;
-    let pull = frame_cost::frame_pull(x, f, normal, offset, weight);
-    let turn = pull.turn;
-    let o = derivative::normal_row(x, ORIGIN, normal, 6);
-    let d0 = derivative::normal_row(x, AXIS_X, normal, 6);
-    let d1 = derivative::normal_row(x, AXIS_Y, normal, 6);
-    let d2 = derivative::normal_row(x, AXIS_Z, normal, 6);
-    let m = derivative::shifted_row(o, d0, d1, d2, mean, 6);
-    let p0 = derivative::combined_row(d0, d1, d2, [c[0], c[1], c[2]], 6);
-    let p1 = derivative::combined_row(d0, d1, d2, [c[3], c[4], c[5]], 6);
-    let p2 = derivative::combined_row(d0, d1, d2, [c[6], c[7], c[8]], 6);
-    let r = Rows(d0, d1, d2, p0, p1, p2, m);
+    let pull = frame_cost::frame_pull(x, f, plane, weight);
+    let r = Rows::of_frame(x, f, plane.normal, 6);
     let n = f.count;
-    let u0 = left(t, at, block_column(r, 0, n, weight, 6), 6, 3);
-    let u1 = left(t, at, block_column(r, 1, n, weight, 6), 6, 3);
-    let u2 = left(t, at, block_column(r, 2, n, weight, 6), 6, 3);
-    let u3 = left(t, at, block_column(r, 3, n, weight, 6), 6, 3);
-    let u4 = left(t, at, block_column(r, 4, n, weight, 6), 6, 3);
-    let u5 = left(t, at, block_column(r, 5, n, weight, 6), 6, 3);
-    let u = Six(u0, u1, u2, u3, u4, u5);
-    put(cells, k, 0, right(u, t, at, 3), 3);
-    put(cells, k, 3, right(u, t, at + 6, 3), 3);
-    put(cells, k, 6, right(u, t, at + 12, 3), 3);
-    let w = frame_stored::vector_of(d0, d1, d2, m, turn, pull.shift, weight, 6);
-    put(cells, k, 9, left(t, at, w, 6, 3), 3);
-    cells[24 + k] = pull.cost;
+    let u0 = left(t, at, r.column(0, n, weight, 6), 6, COLS);
+    let u1 = left(t, at, r.column(1, n, weight, 6), 6, COLS);
+    let u2 = left(t, at, r.column(2, n, weight, 6), 6, COLS);
+    let u3 = left(t, at, r.column(3, n, weight, 6), 6, COLS);
+    let u4 = left(t, at, r.column(4, n, weight, 6), 6, COLS);
+    let u5 = left(t, at, r.column(5, n, weight, 6), 6, COLS);
+    put_columns::<COLS>(cells, k, Six(u0, u1, u2, u3, u4, u5), t, at);
+    let w = r.vector(pull.turn, pull.shift, weight, 6);
+    put(cells, k, COLS * COLS, left(t, at, w, 6, COLS), COLS);
+    cells[2 * (COLS * COLS + COLS) + k] = pull.cost;
 }
 
 // The parts of the first `size` frames of the lists.
-fn parts_by_three(
+fn parts<const COLS: usize, const N: usize>(
     frames: &[f64],
     actions: &[f64],
     transforms: &[f64],
     size: u32,
-    normal: [f64; 3],
-    offset: f64,
+    plane: Plane,
     weight: f64,
-) -> [f64; 26]
-    requires { (size ≤ 2) × (CENTRED * size ≤ length frames.now) × (action_size * size ≤ length actions.now) × (ROOM * size ≤ length transforms.now) }
-    ensures { Parts 3 frames.now actions.now transforms.now normal offset weight size result }
+) -> [f64; N]
+    requires { ((COLS ≡ 3) ⊎ (COLS ≡ 5)) × (N ≡ PARTS COLS) × (size ≤ 2) × (CENTRED * size ≤ length frames.now) × (action_size * size ≤ length actions.now) × (ROOM * size ≤ length transforms.now) }
+    ensures { Parts COLS frames.now actions.now transforms.now plane.normal plane.offset weight size result }
 {
-    let mut cells = [0.0; 26];
+    let mut cells = [0.0; N];
     for q in 0..size {
         let k = q as usize;
         let f = Centred::from_list(plane_fit::whole_at(frames, CENTRED, k));
         let x = plane_fit::whole_at(actions, ACTION, k);
-        part_by_three(
+        part::<COLS>(
             x,
             f,
             transforms,
             TRANSFORM * k,
-            normal,
-            offset,
-            weight,
-            k,
-            &mut cells,
-        );
-    }
-    cells
-}
-
-// The same through a transform of five columns.
-fn part_by_five(
-    x: &[f64],
-    f: Centred,
-    t: &[f64],
-    at: usize,
-    normal: [f64; 3],
-    offset: f64,
-    weight: f64,
-    k: usize,
-    cells: &mut [f64],
-)
-    requires { (length x.now ≡ action_size) × (at + 30 ≤ length t.now) × (k < 2) × (length cells.old ≡ 62) × (at + 30 < 2 ^ 64) }
-    ensures { Part 5 (entry_from t.now at 6) x.now f normal offset weight k cells.old cells.new }
-{
-    let mean = f.mean;
-    let c = f.scatter;
-    let pull = frame_cost::frame_pull(x, f, normal, offset, weight);
-    let turn = pull.turn;
-    let o = derivative::normal_row(x, ORIGIN, normal, 6);
-    let d0 = derivative::normal_row(x, AXIS_X, normal, 6);
-    let d1 = derivative::normal_row(x, AXIS_Y, normal, 6);
-    let d2 = derivative::normal_row(x, AXIS_Z, normal, 6);
-    let m = derivative::shifted_row(o, d0, d1, d2, mean, 6);
-    let p0 = derivative::combined_row(d0, d1, d2, [c[0], c[1], c[2]], 6);
-    let p1 = derivative::combined_row(d0, d1, d2, [c[3], c[4], c[5]], 6);
-    let p2 = derivative::combined_row(d0, d1, d2, [c[6], c[7], c[8]], 6);
-    let r = Rows(d0, d1, d2, p0, p1, p2, m);
-    let n = f.count;
-    let u0 = left(t, at, block_column(r, 0, n, weight, 6), 6, 5);
-    let u1 = left(t, at, block_column(r, 1, n, weight, 6), 6, 5);
-    let u2 = left(t, at, block_column(r, 2, n, weight, 6), 6, 5);
-    let u3 = left(t, at, block_column(r, 3, n, weight, 6), 6, 5);
-    let u4 = left(t, at, block_column(r, 4, n, weight, 6), 6, 5);
-    let u5 = left(t, at, block_column(r, 5, n, weight, 6), 6, 5);
-    let u = Six(u0, u1, u2, u3, u4, u5);
-    put(cells, k, 0, right(u, t, at, 5), 5);
-    put(cells, k, 5, right(u, t, at + 6, 5), 5);
-    put(cells, k, 10, right(u, t, at + 12, 5), 5);
-    put(cells, k, 15, right(u, t, at + 18, 5), 5);
-    put(cells, k, 20, right(u, t, at + 24, 5), 5);
-    let w = frame_stored::vector_of(d0, d1, d2, m, turn, pull.shift, weight, 6);
-    put(cells, k, 25, left(t, at, w, 6, 5), 5);
-    cells[60 + k] = pull.cost;
-}
-
-// The same of five columns.
-fn parts_by_five(
-    frames: &[f64],
-    actions: &[f64],
-    transforms: &[f64],
-    size: u32,
-    normal: [f64; 3],
-    offset: f64,
-    weight: f64,
-) -> [f64; 62]
-    requires { (size ≤ 2) × (CENTRED * size ≤ length frames.now) × (action_size * size ≤ length actions.now) × (ROOM * size ≤ length transforms.now) }
-    ensures { Parts 5 frames.now actions.now transforms.now normal offset weight size result }
-{
-    let mut cells = [0.0; 62];
-    for q in 0..size {
-        let k = q as usize;
-        let f = Centred::from_list(plane_fit::whole_at(frames, CENTRED, k));
-        let x = plane_fit::whole_at(actions, ACTION, k);
-        part_by_five(
-            x,
-            f,
-            transforms,
-            TRANSFORM * k,
-            normal,
-            offset,
+            plane,
             weight,
             k,
             &mut cells,
@@ -299,136 +185,63 @@ fn add_block(h: &mut [f64], n: usize, at: usize, cells: &[f64], k: usize, cols: 
     }
 }
 
-// The parts of a pair of three columns are added where the map says, and their costs to a sum. A frame that goes nowhere was worked out too: it costs.
-fn add_parts_by_three(
+// The parts of a pair are added where the map says, and their costs to a sum. A frame that goes nowhere was worked out too: it costs.
+fn add_parts<const COLS: usize>(
     h: &mut [f64],
     g: &mut [f64],
     map: &[u32],
     from: usize,
     size: usize,
-    cells: &[f64; 26],
+    cells: &[f64],
     sum: f64,
 ) -> f64
-    requires { (size ≤ 2) × (from + size < 2 ^ 64) × (length h.old ≡ length g.old * length g.old) × ((k : ℕ) → k < from + size → exceeds (length g.old) 3 (lookup map.now k) ≡ false) }
-    ensures { PartsAdded (length g.old) 3 map.now cells.now from size sum result h.old h.new g.old g.new }
+    requires { ((COLS ≡ 3) ⊎ (COLS ≡ 5)) × (length cells.now ≡ PARTS COLS) × (size ≤ 2) × (from + size < 2 ^ 64) × (length h.old ≡ length g.old * length g.old) × ((k : ℕ) → k < from + size → exceeds (length g.old) COLS (lookup map.now k) ≡ false) }
+    ensures { PartsAdded (length g.old) COLS map.now cells.now from size sum result h.old h.new g.old g.new }
 {
     let n = g.len();
     let mut s = sum;
     for k in 0..size {
-        match normal_blocks::lookup(map, from + k) {
-            Place::At(at) => {
-                add_block(h, n, at, cells, k, 3);
-                add_numbers(g, at, cells, k, 9, 3);
-            }
-            Place::Unmapped => {}
+        if let Some(at) = normal_blocks::lookup(map, from + k) {
+            add_block(h, n, at, cells, k, COLS);
+            add_numbers(g, at, cells, k, COLS * COLS, COLS);
         }
-        s = s + cells[24 + k];
+        s = s + cells[2 * (COLS * COLS + COLS) + k];
     }
     s
 }
 
-// The first `count` frames of the lists, each through its transform of six rows and three columns: the sum with their costs is the answer.
-pub fn add_by_three(
+// The first `count` frames of the lists, each through its transform of six rows and COLS columns, the parts of a pair being N numbers: the sum with their costs
+// is the answer.
+pub fn add_run<const COLS: usize, const N: usize>(
     h: &mut [f64],
     g: &mut [f64],
     frames: &[f64],
     actions: &[f64],
     map: &[u32],
     transforms: &[f64],
-    normal: [f64; 3],
-    offset: f64,
+    plane: Plane,
     weight: f64,
     count: usize,
     start: f64,
 ) -> f64
-    requires { RunReady (length h.old) (length g.old) 3 frames.now actions.now map.now transforms.now count }
-    ensures { RunAdded (length g.old) 3 frames.now actions.now map.now transforms.now normal offset weight count start result h.old h.new g.old g.new }
+    requires { ((COLS ≡ 3) ⊎ (COLS ≡ 5)) × (N ≡ PARTS COLS) × RunReady (length h.old) (length g.old) COLS frames.now actions.now map.now transforms.now count }
+    ensures { RunAdded (length g.old) COLS frames.now actions.now map.now transforms.now plane.normal plane.offset weight count start result h.old h.new g.old g.new }
 {
     let mut sum = start;
-    let mut from = 0;
-    while from < count {
+    for from in (0..count).step_by(PAIR) {
         let size = lists::batch_size(count, from, PAIR);
         let f = CENTRED * from;
         let x = ACTION * from;
         let t = TRANSFORM * from;
-        let cells = parts_by_three(
+        let cells = parts::<COLS, N>(
             &frames[f..],
             &actions[x..],
             &transforms[t..],
             size as u32,
-            normal,
-            offset,
+            plane,
             weight,
         );
-        sum = add_parts_by_three(h, g, map, from, size, &cells, sum);
-        from = from + size;
-    }
-    sum
-}
-
-// The same of five columns.
-fn add_parts_by_five(
-    h: &mut [f64],
-    g: &mut [f64],
-    map: &[u32],
-    from: usize,
-    size: usize,
-    cells: &[f64; 62],
-    sum: f64,
-) -> f64
-    requires { (size ≤ 2) × (from + size < 2 ^ 64) × (length h.old ≡ length g.old * length g.old) × ((k : ℕ) → k < from + size → exceeds (length g.old) 5 (lookup map.now k) ≡ false) }
-    ensures { PartsAdded (length g.old) 5 map.now cells.now from size sum result h.old h.new g.old g.new }
-{
-    let n = g.len();
-    let mut s = sum;
-    for k in 0..size {
-        match normal_blocks::lookup(map, from + k) {
-            Place::At(at) => {
-                add_block(h, n, at, cells, k, 5);
-                add_numbers(g, at, cells, k, 25, 5);
-            }
-            Place::Unmapped => {}
-        }
-        s = s + cells[60 + k];
-    }
-    s
-}
-
-// The first `count` frames of the lists, each through its transform of six rows and five columns: the sum with their costs is the answer.
-pub fn add_by_five(
-    h: &mut [f64],
-    g: &mut [f64],
-    frames: &[f64],
-    actions: &[f64],
-    map: &[u32],
-    transforms: &[f64],
-    normal: [f64; 3],
-    offset: f64,
-    weight: f64,
-    count: usize,
-    start: f64,
-) -> f64
-    requires { RunReady (length h.old) (length g.old) 5 frames.now actions.now map.now transforms.now count }
-    ensures { RunAdded (length g.old) 5 frames.now actions.now map.now transforms.now normal offset weight count start result h.old h.new g.old g.new }
-{
-    let mut sum = start;
-    let mut from = 0;
-    while from < count {
-        let size = lists::batch_size(count, from, PAIR);
-        let f = CENTRED * from;
-        let x = ACTION * from;
-        let t = TRANSFORM * from;
-        let cells = parts_by_five(
-            &frames[f..],
-            &actions[x..],
-            &transforms[t..],
-            size as u32,
-            normal,
-            offset,
-            weight,
-        );
-        sum = add_parts_by_five(h, g, map, from, size, &cells, sum);
-        from = from + size;
+        sum = add_parts::<COLS>(h, g, map, from, size, &cells, sum);
     }
     sum
 }

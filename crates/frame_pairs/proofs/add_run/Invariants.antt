@@ -1,0 +1,12 @@
+use Prim.Native.Nat.{◌-◌, ◌≤◌}
+use mathlib.Core.Path.{◌≡◌}
+use lib.ListN.{length}
+use Rattle.frame_pairs.specs.Pairs.{RunAdded}
+use Rattle.frame_pairs.proofs.add_run.Given as goal
+
+abbrev pub invariant-loop-from : goal.invariant-loop-from
+invariant-loop-from g l =
+    (l.from ≤ l.count) × (length l.h ≡ length l.initial.h) × (length l.g ≡ length l.initial.g) × RunAdded (length l.initial.g) g.row.COLS l.frames l.actions l.map l.transforms l.plane.normal l.plane.offset l.weight l.from l.start l.sum l.initial.h l.h l.initial.g l.g
+
+abbrev pub decreases-loop-from : goal.decreases-loop-from
+decreases-loop-from g l = l.count - l.from
