@@ -1,20 +1,20 @@
 -- Laws of the multiplying call: what is copied and replaced, a transform that is made, and what is known where the call is accepted. Assumes nothing.
-use Prim.Native.Nat.{ℕ, zero, suc, ◌+◌, ◌*◌, ◌-◌, ◌≤◌, ◌<◌}
-use native.Mathlib.Nat.{zero-add, add-zero, zero-mul, suc-mul, not-suc-le-zero, le_of_suc-le-suc, mul-le-mul_right, mul_comm}
+use Prim.Native.Nat.{ℕ, ◌+◌, ◌*◌, ◌-◌, ◌≤◌, ◌<◌}
+use native.Mathlib.Nat.{zero-add, add-zero, zero-mul, suc-mul, mul-le-mul_right, mul_comm}
 use native.Mathlib.Numerals.{add-one}
 use native.Mathlib.Omega.{arith}
 use mathlib.Core.Path.{◌≡◌, refl, sym, ap, ap₂, ◌∙◌}
-use mathlib.Core.Logic.{◌⊎◌, ⊎_elim}
 use mathlib.Core.Bool.{false, not, ◌||◌}
-use mathlib.Core.List.{List, [], ◌∷◌, ◌++◌, append_assoc, append-nil}
+use mathlib.Core.List.{List, [], ◌∷◌, ◌++◌, append_assoc}
 use lib.Dec.{eqb, ltb}
-use lib.ListN.{length, get_or, set, take, drop, take-append-drop, drop_of_length-le, get_or-eq_default, length-append, length-drop, replicate, length-replicate, get_or-replicate, replicate-append-replicate}
-use lib.Seq.{ext_get_or, sets-eq, drop-drop, take_at, take_all, take-add, take-suc, take-suc-set, length-take-le, drop-append-add}
+use lib.ListN.{length, get_or, take, drop, length-append, replicate, length-replicate, get_or-replicate, replicate-append-replicate}
+use lib.Seq.{ext_get_or, drop-drop, take_at, length-take-le, drop-append-add}
 use lib.Ieee.{Float, nan}
 use borrow.Author.Tests.{ltb-false, eqb-true, not-false, lt-ltb, le-ltb}
 use Rattle.std.specs.Prelude.{Option, Some, None}
 use Rattle.sums.specs.Sum.{◌⊕◌, ◌⊗◌, zero_f, tab, grid}
-use Rattle.sums.specs.Laws.{length-tab, tab-same, get_or-tab, off-add, sum_to_more, length-grid, grid-column}
+use Rattle.std.proofs.lemmas.List.{get_or-take}
+use Rattle.sums.specs.Laws.{length-tab, tab-same, tab-get_or, get_or-tab, off-add, sum_to_more, length-grid, grid-column}
 use Rattle.sums.specs.Fill.{written, written_same, padded, column_ends}
 use Rattle.lists.specs.Part.{◌!◌, part}
 use Rattle.refusals.specs.Refusal.{none, either_none}
@@ -31,16 +31,8 @@ use Rattle.block_transforms.proofs.Laws.{Fits, transform_fits, transform_there}
 use Rattle.block_transforms.specs.declared.Shape.{Shape}
 use Rattle.transform_maps.specs.Multiply.{Work, further_of, old_of, bad_slices, too_wide, wide_at, some_wide, unchained, bad_further, transform_refusal, newly_made, chained, made_entry, made_columns, or_else, spliced, replaced, new_shapes, new_transforms}
 
--- ---- a slice that is empty or long enough, read element by element
+-- ---- a list that is empty or long enough
 module _ {A : Type 0} where
-  pub get_or_any : (l : List A) (k : ℕ) (d e : A) → k < length l → get_or l k d ≡ get_or l k e
-  get_or_any [] k d e h = absurd (not-suc-le-zero h)
-  get_or_any (x ∷ xs) zero d e h = refl
-  get_or_any (x ∷ xs) (suc k) d e h = get_or_any xs k d e (le_of_suc-le-suc h)
-
-  pub none_there : (l : List A) (i : ℕ) (x : A) → length l ≡ 0 → x ≡ get_or l i x
-  none_there l i x e = sym (get_or-eq_default l x (omega arith))
-
   -- the list, or n times x where it is empty
   pub else_empty : (n : ℕ) (x : A) (l : List A) → length l ≡ 0 → replicate n x ≡ or_else n x l
   unfolding or_else
@@ -52,53 +44,11 @@ module _ {A : Type 0} where
   else_there n x [] e = absurd (e refl)
   else_there n x (y ∷ l) e = refl
 
-  pub length_else : (n : ℕ) (x : A) (l : List A) → (length l ≡ 0) ⊎ (length l ≡ n) → length (or_else n x l) ≡ n
-  unfolding or_else
-  length_else n x [] e = length-replicate n x
-  length_else n x (y ∷ l) e = ⊎_elim (λ z. absurd (omega arith)) (λ z. z) e
-
-  pub else_at : (n i : ℕ) (d x : A) (l : List A) → (length l ≡ 0) ⊎ (length l ≡ n) → i < n → get_or l i x ≡ get_or (or_else n x l) i d
-  unfolding or_else
-  else_at n i d x [] e h = sym (get_or-replicate n i x d h)
-  else_at n i d x (y ∷ l) e h = ⊎_elim (λ z. absurd (omega arith)) (λ z. get_or_any (y ∷ l) i x d (omega arith)) e
-
-  -- a loop that copies: one element more, and all of them
-  pub front_more : (t l : List A) (k : ℕ) (v d : A) → length l ≡ length t → k < length t → v ≡ get_or t k d → take k l ≡ take k t → take (k + 1) (set l k v) ≡ take (k + 1) t
-  front_more t l k v d e h w p =
-      let n : k < length l = omega arith in
-      rw (add-one k, take-suc-set l k v n, take-suc t k d h, w, p)
-
-  pub front_all : (t l : List A) (k : ℕ) → k ≡ length t → length l ≡ length t → take k l ≡ take k t → l ≡ t
-  front_all t l k q e p = sym (take_all k l (omega arith)) ∙ p ∙ take_all k t (omega arith)
-
-  -- a part more
-  pub length-spliced : (size from : ℕ) (new old : List A) → from + size ≤ length old → length new ≡ size → length (spliced size from new old) ≡ length old
-  length-spliced size from new old fit e = simp (length-append, length-drop, length-take-le from old (omega arith)) (omega arith)
-
-  pub part_more : (t l : List A) (size from : ℕ) → from + size ≤ length t → length l ≡ length t → take from l ≡ take from t
-      → take (from + size) (spliced size from (take size (drop from t)) l) ≡ take (from + size) t
-  part_more t l size from fit e p =
-      let front = take from l ++ take size (drop from t) in
-      let long : length front ≡ from + size = simp (length-append, length-take-le from l (omega arith), length-take-le size (drop from t) (rw length-drop (omega arith))) in
-      rw (← append_assoc (take from l) (take size (drop from t)) (drop (from + size) l)) (take_at front _ (from + size) long ∙ rw (p, ← take-add from size t))
-
   -- a part that was lent and is back
   pub part_back : (size from end : ℕ) (old new new' : List A) → end ≡ from + size → new' ≡ new → take from old ++ (new' ++ drop (end - from) (drop from old)) ≡ spliced size from new old
   part_back size from end old new new' e same =
       let n : end - from ≡ size = omega arith in
       rw (same, n, drop-drop size from old)
-
-  pub part-lent : (size from end : ℕ) (l : List A) → end ≡ from + size → take (end - from) (drop from l) ≡ take size (drop from l)
-  part-lent size from end l e = let n : end - from ≡ size = omega arith in rw n
-
-  -- and all that was left
-  pub rest_back : (from : ℕ) (t l new : List A) → length l ≡ length t → new ≡ take (length t - from) (drop from t) → take from l ≡ take from t
-      → take from l ++ (new ++ drop (length l - from) (drop from l)) ≡ t
-  rest_back from t l new size same p =
-      let all : take (length t - from) (drop from t) ≡ drop from t = take_all (length t - from) (drop from t) (rw length-drop (omega arith)) in
-      let short : length (drop from l) ≤ length l - from = rw length-drop (omega arith) in
-      let none : drop (length l - from) (drop from l) ≡ [] = drop_of_length-le (drop from l) short in
-      rw (none, append-nil, same, all, p, take-append-drop)
 
   -- the word at the place, or none
   module _ (words place size : ℕ) (new old : List A) where
@@ -110,10 +60,9 @@ module _ {A : Type 0} where
     unfolding replaced
     at_place h = rw (lt-ltb place words h)
 
--- the two words of a shape
-pub shape-set : (place rows cols : ℕ) (out : List ℕ) → 2 * place + 2 ≤ length out → set (set out (2 * place) rows) (2 * place + 1) cols ≡ spliced 2 (2 * place) (rows ∷ cols ∷ []) out
-shape-set place rows cols out fit =
-    ap (λ (i : ℕ). set (set out (2 * place) rows) i cols) (add-one (2 * place)) ∙ sets-eq (rows ∷ cols ∷ []) out (2 * place) fit ∙ append_assoc (take (2 * place) out) _ _
+-- a word ends within the list
+pub place_ends : (size words place : ℕ) → place < words → size * place + size ≤ size * words
+place_ends size words place h = omega (arith, mul_comm size place, mul_comm size words, suc-mul place size, mul-le-mul_right size h)
 
 -- ---- what is made, column after column
 -- +0 without the first n numbers
@@ -146,6 +95,10 @@ pub length_made : (rows cols : ℕ) (t : ℕ → ℕ → Float) → cols * rows 
 unfolding newly_made
 length_made rows cols t h = simp (length-append, length-grid, length-replicate) (omega arith)
 
+-- numbers that are copied from the front of a list
+pub front_is : (n : ℕ) (l : List Float) → n ≤ length l → take n l ≡ tab n (λ k. l ! k)
+front_is n l h = sym (tab-get_or n (take n l) (length-take-le n l h)) ∙ tab-same n _ _ (λ k m. get_or-take n l k nan m)
+
 -- the further one alone
 pub alone_is : (rows cols : ℕ) (further : List Float) → padded ROOM (cols * rows) (number_from further 0) ≡ newly_made rows cols (entry_from further 0 rows)
 unfolding padded newly_made entry_from number_from
@@ -154,6 +107,16 @@ alone_is rows cols further =
     let same : first ≡ grid rows cols (λ r c. get_or further (0 + (c * rows + r)) nan) =
     grid_of_cells rows cols _ first (length-tab (cols * rows) _) (λ i j li lj. get_or-tab (cols * rows) (λ e. get_or further (0 + e) nan) (cell_of rows i j) (omega (arith, column_ends rows cols j lj))) in
     rw same
+
+-- and as it is copied to the front of 81 times +0
+pub front_padded : (rows cols : ℕ) (further new : List Float) → cols * rows ≤ ROOM → length further ≡ ROOM → new ≡ take (cols * rows) further
+    → new ++ drop (cols * rows) (replicate ROOM zero_f) ≡ newly_made rows cols (entry_from further 0 rows)
+unfolding padded number_from
+front_padded rows cols further new fit long e =
+    let n = cols * rows in
+    let m : ROOM ≡ n + (ROOM - n) = omega arith in
+    let zeros : drop n (replicate ROOM zero_f) ≡ replicate (ROOM - n) zero_f = ap (λ (k : ℕ). drop n (replicate k zero_f)) m ∙ fewer_zeros n (ROOM - n) in
+    rw (e, front_is n further (omega arith), zeros) (ap (λ (l : List Float). l ++ replicate (ROOM - n) zero_f) (tab-same n _ (number_from further 0) (λ k h. rw (zero-add k))) ∙ alone_is rows cols further)
 
 -- n sums over the rows of column c: without a product, of the first one, and of one more
 module _ (n rows : ℕ) (further numbers : List Float) (from inner c : ℕ) where

@@ -2,10 +2,9 @@
 use mathlib.Core.Path.{◌≡◌, sym, ap, ap₂, ◌∙◌}
 use mathlib.Core.Logic.{⊎_elim, inl, inr}
 use native.Mathlib.Omega.{arith}
-use lib.ListN.{length}
 use Rattle.block_transforms.specs.Transform.{shape_at, width_under}
-use Rattle.block_transforms.proofs.Laws.{room, beside_fits}
-use Rattle.transform_maps.proofs.Laws.{accepted_work, old-known, made_narrow, length_made, multiplied}
+use Rattle.block_transforms.proofs.Laws.{beside_fits}
+use Rattle.transform_maps.proofs.Laws.{accepted_work, old-known, made_narrow, multiplied}
 use Rattle.transform_maps.proofs.multiply.Goals as goal
 use Rattle.transform_maps.proofs.multiply.Goals.{After-width_under-cols}
 
@@ -29,19 +28,18 @@ make-made-requires c =
 pub overflow_cast-cols : goal.overflow_cast-cols
 overflow_cast-cols c = omega (arith, wide (goal.at.overflow_cast-cols c).After-width_under-cols, made_narrow _ _ _ c.requires)
 
-pub write_shapes-requires : goal.write_shapes-requires
-write_shapes-requires c =
+pub replace-requires : goal.replace-requires
+replace-requires c =
     let a = accepted_work _ _ _ c.requires in
-    (⊎_elim (λ p. inl p.0) (λ p. inr p.0) (beside_fits _ _ _ a.slices), a.shapes_long)
+    (omega arith, (tt, ((λ x e. e), (⊎_elim (λ p. inl p.0) (λ p. inr p.0) (beside_fits _ _ _ a.slices), a.shapes_long))))
 
-pub write_numbers-requires : goal.write_numbers-requires
-write_numbers-requires c =
-    let ok = c.requires in
-    let a = accepted_work _ _ _ ok in
-    (⊎_elim (λ p. inl p.1) (λ p. inr p.1) (beside_fits _ _ _ a.slices), a.numbers_long, ap length c.make-made.ensures ∙ length_made _ _ _ (room _ _ a.narrow (rw (wide (goal.at.write_numbers-requires c).After-width_under-cols) (made_narrow _ _ _ ok))))
+pub replace-requires-2 : goal.replace-requires-2
+replace-requires-2 c =
+    let a = accepted_work _ _ _ c.requires in
+    (omega arith, (tt, ((λ x e. e), (⊎_elim (λ p. inl p.1) (λ p. inr p.1) (beside_fits _ _ _ a.slices), a.numbers_long))))
 
 pub returns : goal.returns
 returns c =
     let a = c.args in
     multiplied (record { dof = a.dof; map = a.map.now; shapes = a.shapes.now; transforms = a.transforms.now; place = a.place; further-shape = a.shape.now; further = a.further.now }) _ _ _ _ _
-    c.write_shapes.ensures c.write_numbers.ensures (wide (goal.at.returns c).After-width_under-cols) c.shape_at-old.ensures c.make-made.ensures
+    c.replace.ensures c.replace-2.ensures (wide (goal.at.returns c).After-width_under-cols) c.shape_at-old.ensures c.make-made.ensures

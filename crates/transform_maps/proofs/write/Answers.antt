@@ -1,16 +1,15 @@
--- `transform_maps::write` meets its contract: after r turns the first r numbers are written. Assumes nothing.
-use mathlib.Core.Path.{refl}
-use borrow.Author.Rules.{rules}
-use Rattle.sums.specs.Fill.{writing_none, writing_more, writing_all}
+-- `transform_maps::write` meets its contract: the numbers copied are the first n of the column. Assumes nothing.
+use Rattle.std.proofs.Common.{◌≡◌, ◌+◌, ◌-◌, arith, ◌∙◌, drop-drop}
+use Rattle.sums.specs.Sum.{tab}
+use Rattle.lists.specs.Part.{◌!◌}
+use Rattle.sums.specs.Fill.{written}
+use Rattle.transform_maps.proofs.Laws.{front_is}
 use Rattle.transform_maps.proofs.write.Goals as goal
 
-pub loop-r-preserved : goal.loop-r-preserved
-loop-r-preserved c =
-    let l = c.loop-r in
-    writing_more _ _ _ _ l.out l.r _ (search rules) (search rules) refl l.invariant
-
-pub loop-r-init : goal.loop-r-init
-loop-r-init c = writing_none _ _ _ _
-
 pub returns : goal.returns
-returns c = writing_all _ _ _ _ _ _ c.loop-r-test.false c.loop-r.invariant
+unfolding written
+returns c =
+    let a = c.args in
+    let n : (a.at + a.n) - a.at ≡ a.n = omega arith in
+    let e : c.copy_from_slice.new.self ≡ tab a.n (λ k. a.column ! k) = c.copy_from_slice.ensures.after ∙ front_is a.n a.column (omega arith) in
+    rw (n, e, drop-drop a.n a.at a.out.now)
