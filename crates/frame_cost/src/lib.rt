@@ -107,7 +107,7 @@ pub fn with_fixed(sum: f64, fixed: &[f64], plane: Plane, weight: f64) -> f64
     requires { (length fixed.now ≡ 0) ⊎ (length fixed.now ≡ CENTRED) }
     ensures { result ≡ and_fixed fixed.now (λ f. fixed_cost f plane.normal plane.offset weight) sum }
 {
-    if fixed.len() == 0 {
+    if fixed.is_empty() {
         return sum;
     }
     let f = Centred::from_list(fixed);

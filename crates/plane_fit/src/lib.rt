@@ -23,21 +23,7 @@ use refusals::Refusal;
 // The most frames of one plane.
 pub const MOST_FRAMES: usize = 256;
 
-// Record k of a list of records of so many numbers, as a part of the list; an empty part if the list ends before it does.
-pub fn record_at(list: &[f64], size: usize, k: usize) -> &[f64]
-    requires { 0 < size }
-    ensures { result.now ≡ record_of size list.now k }
-{
-    if k < list.len() / size {
-        let at = size * k;
-        let end = at + size;
-        &list[at..end]
-    } else {
-        &list[0..0]
-    }
-}
-
-// The same of a list that holds the record whole: a loop over records needs no test in each turn.
+// Record k of a list of records of so many numbers, as a part of the list, which holds it whole: a loop over records needs no test in each turn.
 pub fn whole_at(list: &[f64], size: usize, k: usize) -> &[f64]
     requires { size * k + size ≤ length list.now }
     ensures { result.now ≡ record_of size list.now k }
@@ -45,6 +31,18 @@ pub fn whole_at(list: &[f64], size: usize, k: usize) -> &[f64]
     let at = size * k;
     let end = at + size;
     &list[at..end]
+}
+
+// The same of any list: an empty part if the list ends before the record does.
+pub fn record_at(list: &[f64], size: usize, k: usize) -> &[f64]
+    requires { 0 < size }
+    ensures { result.now ≡ record_of size list.now k }
+{
+    if k < list.len() / size {
+        whole_at(list, size, k)
+    } else {
+        &list[0..0]
+    }
 }
 
 // The numbers of frame k.
@@ -64,7 +62,7 @@ pub fn centre(x: &[f64], f: Centred) -> [f64; 3]
 }
 
 // The counts of some sets, and the sum of their means times their counts.
-#[derive(Clone, Copy)]
+#[derive(Clone, Copy, Default)]
 pub struct Weighted {
     pub total: f64,
     pub sum: [f64; 3],
@@ -96,10 +94,7 @@ fn weigh(frames: &[f64], actions: &[f64]) -> Weighted
     requires { action_size * frame_count frames.now ≤ length actions.now }
     ensures { result ≡ weighed frames.now actions.now (frame_count frames.now) }
 {
-    let mut s = Weighted {
-        total: 0.0,
-        sum: [0.0; 3],
-    };
+    let mut s = Weighted::default();
     for k in 0..frames.len() / CENTRED {
         let f = Centred::from_list(frame(frames, k));
         let w = centre(whole_at(actions, ACTION, k), f);
@@ -245,7 +240,7 @@ pub fn fit_mean(frames: &[f64], fixed: &[f64], actions: &[f64]) -> [f64; 3]
     ensures { result ≡ fit_mean frames.now fixed.now actions.now }
 {
     let s = weigh(frames, actions);
-    if fixed.len() == 0 {
+    if fixed.is_empty() {
         return s.mean();
     }
     let f = Centred::from_list(fixed);
@@ -260,7 +255,7 @@ fn fit_scatter(frames: &[f64], fixed: &[f64], actions: &[f64], mean: [f64; 3]) -
 {
     let count = frames.len() / CENTRED;
     let s = scatter_of(frames, actions, count, mean);
-    if fixed.len() == 0 {
+    if fixed.is_empty() {
         return s;
     }
     let f = Centred::from_list(fixed);
@@ -311,16 +306,6 @@ pub fn bad_actions(frames: &[f64], actions: &[f64]) -> bool
     bad_count(frames, CENTRED, actions, ACTION)
 }
 
-// Mean and scatter as a host is told them.
-fn told(mean: [f64; 3], s: Scatter) -> [f64; 12]
-    ensures { result ≡ part 3 mean 0 ++ part 9 s.entries 0 }
-{
-    let e = s.entries;
-    [
-        mean[0], mean[1], mean[2], e[0], e[1], e[2], e[3], e[4], e[5], e[6], e[7], e[8],
-    ]
-}
-
 // The host's call: the fit's mean and scatter, for the decomposition that the host makes of it.
 pub fn fit(
     dof: u32,
@@ -334,7 +319,7 @@ pub fn fit(
     if dof > MOST_DOF {
         return Err(Refusal::DofTooLarge);
     }
-    if frames.len() == 0 {
+    if frames.is_empty() {
         return Err(Refusal::EmptyList);
     }
     if bad_frames(frames) {
@@ -350,7 +335,7 @@ pub fn fit(
         return Err(Refusal::WrongActions);
     }
     let mean = fit_mean(frames, fixed, actions);
-    let answer = told(mean, fit_scatter(frames, fixed, actions, mean));
-    lists::store(out, &answer);
+    let scatter = fit_scatter(frames, fixed, actions, mean);
+    out.copy_from_slice(&lists::three_and_nine(mean, scatter.entries));
     Ok(())
 }

@@ -11,14 +11,14 @@ pub returns-then-dof-gt-MOST_DOF : goal.returns-then-dof-gt-MOST_DOF
 unfolding fit_refusal
 returns-then-dof-gt-MOST_DOF c = refused (rw (lt-ltb _ _ c.if-dof-gt-MOST_DOF.true))
 
-pub returns-then-frames-eq0 : goal.returns-then-frames-eq0
+pub returns-then-is_empty : goal.returns-then-is_empty
 unfolding fit_refusal
-returns-then-frames-eq0 c = refused (rw (le-ltb _ _ c.if-dof-gt-MOST_DOF.false, eq-eqb _ _ c.if-frames-eq0.true))
+returns-then-is_empty c = refused (rw (le-ltb _ _ c.if-dof-gt-MOST_DOF.false, sym c.is_empty.ensures ∙ c.if-is_empty.true))
 
 pub returns-then-bad_frames : goal.returns-then-bad_frames
 unfolding fit_refusal
 returns-then-bad_frames c =
-    refused (rw (le-ltb _ _ c.if-dof-gt-MOST_DOF.false, ne_eqb _ _ c.if-frames-eq0.false, sym c.bad_frames.ensures ∙ c.if-bad_frames.true))
+    refused (rw (le-ltb _ _ c.if-dof-gt-MOST_DOF.false, sym c.is_empty.ensures ∙ c.if-is_empty.false, sym c.bad_frames.ensures ∙ c.if-bad_frames.true))
 
 pub returns-then-bad_fixed : goal.returns-then-bad_fixed
 unfolding fit_refusal
@@ -26,7 +26,7 @@ returns-then-bad_fixed c =
     refused
     (rw (
       le-ltb _ _ c.if-dof-gt-MOST_DOF.false,
-      ne_eqb _ _ c.if-frames-eq0.false,
+      sym c.is_empty.ensures ∙ c.if-is_empty.false,
       sym c.bad_frames.ensures ∙ c.if-bad_frames.false,
       sym c.bad_fixed.ensures ∙ c.if-bad_fixed.true,
     ))
@@ -37,7 +37,7 @@ returns-then-out-ne12 c =
     refused
     (rw (
       le-ltb _ _ c.if-dof-gt-MOST_DOF.false,
-      ne_eqb _ _ c.if-frames-eq0.false,
+      sym c.is_empty.ensures ∙ c.if-is_empty.false,
       sym c.bad_frames.ensures ∙ c.if-bad_frames.false,
       sym c.bad_fixed.ensures ∙ c.if-bad_fixed.false,
       ne_eqb _ _ c.if-out-ne12.true,
@@ -49,7 +49,7 @@ returns-then-bad_actions c =
     refused
     (rw (
       le-ltb _ _ c.if-dof-gt-MOST_DOF.false,
-      ne_eqb _ _ c.if-frames-eq0.false,
+      sym c.is_empty.ensures ∙ c.if-is_empty.false,
       sym c.bad_frames.ensures ∙ c.if-bad_frames.false,
       sym c.bad_fixed.ensures ∙ c.if-bad_fixed.false,
       eq-eqb _ _ c.if-out-ne12.false,
@@ -60,8 +60,8 @@ pub fit_mean-mean-requires : goal.fit_mean-mean-requires
 fit_mean-mean-requires c =
     shaped _ _ _ (sym c.bad_frames.ensures ∙ c.if-bad_frames.false) (sym c.bad_fixed.ensures ∙ c.if-bad_fixed.false) (sym c.bad_actions.ensures ∙ c.if-bad_actions.false)
 
-pub fit_scatter-requires : goal.fit_scatter-requires
-fit_scatter-requires c = fit_mean-mean-requires (goal.at.fit_scatter-requires c).Else-bad_actions
+pub fit_scatter-scatter-requires : goal.fit_scatter-scatter-requires
+fit_scatter-scatter-requires c = fit_mean-mean-requires (goal.at.fit_scatter-scatter-requires c).Else-bad_actions
 
 pub returns : goal.returns
 unfolding fit_refusal
@@ -69,10 +69,10 @@ returns c =
     accepted
     (rw (
       le-ltb _ _ c.if-dof-gt-MOST_DOF.false,
-      ne_eqb _ _ c.if-frames-eq0.false,
+      sym c.is_empty.ensures ∙ c.if-is_empty.false,
       sym c.bad_frames.ensures ∙ c.if-bad_frames.false,
       sym c.bad_fixed.ensures ∙ c.if-bad_fixed.false,
       eq-eqb _ _ c.if-out-ne12.false,
       sym c.bad_actions.ensures ∙ c.if-bad_actions.false,
     ))
-    (c.store.ensures ∙ c.told-answer.ensures ∙ told_is _ _ _ _ _ c.fit_mean-mean.ensures c.fit_scatter.ensures)
+    (c.copy_from_slice.ensures.after ∙ c.three_and_nine.ensures ∙ told_is _ _ _ _ _ c.fit_mean-mean.ensures c.fit_scatter-scatter.ensures)
