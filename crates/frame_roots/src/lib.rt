@@ -158,7 +158,7 @@ pub fn fill_roots(
     ensures { Rooted frames.now ds.now from size roots.new }
 {
     fill_radicands(frames, ds, from, size, fours);
-    square_root::many::sqrt_all(fours, size * 4);
+    square_root::many::sqrt_all(&mut fours[..size * 4]);
     put_roots(ds, from, size, fours, roots);
 }
 

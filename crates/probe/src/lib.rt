@@ -46,6 +46,6 @@ pub fn probe_sqrt_among(x: f64, other: f64, place: usize, many: usize) -> f64
     }
     let mut xs = [other; 32];
     xs[place] = x;
-    square_root::many::sqrt_all(&mut xs, many);
+    square_root::many::sqrt_all(&mut xs[..many]);
     xs[place]
 }

@@ -128,7 +128,7 @@ fn sqrt_bits(b: u64) -> u64
 {
     let e = b >> 52;
     if e == 0 {
-        let s = u64::leading_zeros(b) - 11;
+        let s = b.leading_zeros() - 11;
         root_bits(b << s, 1074 - s as u64)
     } else {
         root_bits((b & 0xf_ffff_ffff_ffff) + 0x10_0000_0000_0000, e + 1073)
@@ -144,7 +144,7 @@ pub fn sqrt(x: f64) -> f64
     if x != x {
         x
     } else {
-        let b = f64::to_bits(x);
+        let b = x.to_bits();
         if b >= 0x8000_0000_0000_0000 {
             if b == 0x8000_0000_0000_0000 {
                 x

@@ -33,12 +33,12 @@ fn digits(x: f64) -> u64
     if x != x {
         return 0;
     }
-    let b = f64::to_bits(x);
+    let b = x.to_bits();
     let m = b % 0x10_0000_0000_0000 + 0x10_0000_0000_0000;
     if (b >> 52) % 2 == 1 { m } else { 2 * m }
 }
 
-// Digits of a root, and 0 where there is no doubt about them.
+// Digits of a root, and 0 where there is no doubt about them. As an Option the guess would cost each number a branch.
 #[derive(Clone, Copy)]
 struct Guess {
     root: u64,
@@ -51,33 +51,33 @@ fn by_hint(n: u64, y: u64) -> Guess
     ensures { Told n result.root result.doubt }
 {
     let s = ((times(n >> 22, y) >> 31) + 0xffff_fffc) % 0x1_0000_0000;
-    let r = std::num::wrapping_sub_u64(n << 10, s * s);
+    let r = (n << 10).wrapping_sub(s * s);
     let q = ((times(r >> 5, y) >> 30) + 3) >> 7;
-    let u = std::num::wrapping_sub_u64(r << 21, s * q);
-    let d = std::num::wrapping_sub_u64(u << 23, q * q);
+    let u = (r << 21).wrapping_sub(s * q);
+    let d = (u << 23).wrapping_sub(q * q);
     let root = (s << 22) + q;
-    let e = std::num::wrapping_sub_u64(2 * root, d);
+    let e = (2 * root).wrapping_sub(d);
     Guess {
         root,
         doubt: (r >> 37) + (u >> 34) + (d >> 63) + (e >> 63),
     }
 }
 
-// The digits of the first `many` numbers, and the hints for them.
-fn fill_digits(xs: &[f64; 32], many: usize, ns: &mut [u64; 32], ys: &mut [u64; 32])
-    requires { (many ≤ MOST) × (length ns.old ≡ MOST) × (length ys.old ≡ MOST) }
-    ensures { (length ns.new ≡ MOST) × (length ys.new ≡ MOST) × ((k : ℕ) → k < many → slice_index ns.new k ≡ digits_of (slice_index_or xs.now k nan)) }
+// The digits of the numbers, and the hints for them.
+fn fill_digits(xs: &[f64], ns: &mut [u64; 32], ys: &mut [u64; 32])
+    requires { length xs.now ≤ MOST }
+    ensures { (k : ℕ) → k < length xs.now → slice_index ns.new k ≡ digits_of (slice_index_or xs.now k nan) }
 {
-    for k in 0..many {
+    for k in 0..xs.len() {
         let n = digits(xs[k]);
         ns[k] = n;
         ys[k] = inverse_root(n >> 22);
     }
 }
 
-// What the hints lead to: roots take the places of the digits, and doubts those of the hints.
+// What the hints lead to, of the first `many`: roots take the places of the digits, and doubts those of the hints.
 fn fill_guesses(ns: &mut [u64; 32], ys: &mut [u64; 32], many: usize)
-    requires { (many ≤ MOST) × (length ns.old ≡ MOST) × (length ys.old ≡ MOST) }
+    requires { many ≤ MOST }
     ensures { (k : ℕ) → k < many → Told (slice_index ns.old k) (slice_index ns.new k) (slice_index ys.new k) }
 {
     for k in 0..many {
@@ -95,7 +95,7 @@ fn settled(x: f64, root: u64, doubt: u64) -> f64
     if x != x {
         return x;
     }
-    let b = f64::to_bits(x);
+    let b = x.to_bits();
     if b < 0x10_0000_0000_0000 {
         return crate::sqrt(x);
     }
@@ -108,24 +108,24 @@ fn settled(x: f64, root: u64, doubt: u64) -> f64
     f64::from_bits(crate::normal_bits(b, root))
 }
 
-// The roots of the first `many` numbers, each from its guess, take their places.
-fn settle(xs: &mut [f64; 32], many: usize, roots: &[u64; 32], doubts: &[u64; 32])
-    requires { (many ≤ MOST) × (length xs.old ≡ MOST) × ((k : ℕ) → k < many → Told (digits_of (slice_index_or xs.old k nan)) (slice_index roots.now k) (slice_index doubts.now k)) }
-    ensures { RootsOf many xs.old xs.new }
+// The roots of the numbers, each from its guess, take their places.
+fn settle(xs: &mut [f64], roots: &[u64; 32], doubts: &[u64; 32])
+    requires { (length xs.old ≤ MOST) × ((k : ℕ) → k < length xs.old → Told (digits_of (slice_index_or xs.old k nan)) (slice_index roots.now k) (slice_index doubts.now k)) }
+    ensures { RootsOf (length xs.old) xs.old xs.new }
 {
-    for k in 0..many {
+    for k in 0..xs.len() {
         xs[k] = settled(xs[k], roots[k], doubts[k]);
     }
 }
 
-// The roots of the first `many` numbers take their places.
-pub fn sqrt_all(xs: &mut [f64; 32], many: usize)
-    requires { (many ≤ MOST) × (length xs.old ≡ MOST) }
-    ensures { RootsOf many xs.old xs.new }
+// The roots of at most 32 numbers take their places.
+pub fn sqrt_all(xs: &mut [f64])
+    requires { length xs.old ≤ MOST }
+    ensures { RootsOf (length xs.old) xs.old xs.new }
 {
     let mut ns: [u64; 32] = [0; 32];
     let mut ys: [u64; 32] = [0; 32];
-    fill_digits(xs, many, &mut ns, &mut ys);
-    fill_guesses(&mut ns, &mut ys, many);
-    settle(xs, many, &ns, &ys);
+    fill_digits(xs, &mut ns, &mut ys);
+    fill_guesses(&mut ns, &mut ys, xs.len());
+    settle(xs, &ns, &ys);
 }

@@ -2,14 +2,16 @@
 use mathlib.Core.Path.{◌≡◌, ap, ◌∙◌}
 use mathlib.Core.Bool.{true, false}
 use Prim.Native.Nat.{ℕ, ◌≤◌, ◌<◌}
+use mathlib.Core.List.{List}
 use native.Mathlib.Omega.{arith}
 use lib.Dec.{ltb, lt→ltb}
 use lib.Arith.{le→nltb}
-use lib.ListN.{replicate, length-replicate}
+use lib.ListN.{set, length-set, replicate, length-replicate}
 use lib.Seq.{get_or-set_same}
-use lib.Ieee.{nan}
+use lib.Ieee.{Float, nan}
 use lib.Ieee.Bits.{is_true, is_false}
 use Rattle.square_root.specs.Computed.{square_root}
+use Rattle.square_root.proofs.FirstRoots.{first_roots}
 use Rattle.probe.specs.Among.{root_among}
 use Rattle.probe.proofs.probe_sqrt_among.Goals as goal
 
@@ -32,6 +34,7 @@ pub returns : goal.returns
 unfolding root_among
 returns c =
     let a = c.args in
+    let xs : List Float = set (replicate 32 a.other) a.place a.x in
     let inside : a.place < 32 = omega (arith, c.if-many-gt32.false, c.if-place-many.false) in
     rw (not_below_lem 32 a.many c.if-many-gt32.false, below a.place a.many c.if-place-many.false)
-    (c.sqrt_all.ensures.each a.place c.if-place-many.false ∙ ap square_root (get_or-set_same (replicate 32 a.other) a.place a.x nan (simp length-replicate inside)))
+    ((first_roots a.many xs c.sqrt_all.new.xs (simp (length-set, length-replicate) c.if-many-gt32.false) c.sqrt_all.ensures).each a.place c.if-place-many.false ∙ ap square_root (get_or-set_same (replicate 32 a.other) a.place a.x nan (simp length-replicate inside)))

@@ -1,5 +1,5 @@
 -- `square_root::many::by_hint` meets its contract: `told` of `Halves.antt`. Assumes nothing.
-use Rattle.std.proofs.Common.{ℕ, ◌+◌, ◌/◌, ◌%◌, ◌^◌, ◌<◌, arith, w64, Fits}
+use Rattle.std.proofs.Common.{◌≡◌, ℕ, ◌+◌, ◌-◌, ◌*◌, mod-lt, lit<, ◌/◌, ◌%◌, ◌^◌, ◌<◌, arith}
 use Rattle.square_root.proofs.Products.{product}
 use Rattle.square_root.proofs.Halves.{told}
 use Rattle.square_root.proofs.many.by_hint.Goals as goal
@@ -15,24 +15,28 @@ lower c = omega arith
 short : {q : ℕ} → q < 2 ^ 28 → q < 2 ^ 32
 short h = omega arith
 
-pub overflow_mul-s : goal.overflow_mul-s
-overflow_mul-s c = product (upper c) (upper c)
+pub overflow_mul-r : goal.overflow_mul-r
+overflow_mul-r c = product (upper c) (upper c)
 
-pub overflow_mul-s-2 : goal.overflow_mul-s-2
-overflow_mul-s-2 c = product (upper (goal.at.overflow_mul-s-2 c).After-times) (short (lower c))
+pub overflow_mul-u : goal.overflow_mul-u
+overflow_mul-u c = product (upper (goal.at.overflow_mul-u c).After-times) (short (lower c))
 
-pub overflow_mul-q : goal.overflow_mul-q
-overflow_mul-q c = let q = short (lower (goal.at.overflow_mul-q c).After-times-2) in product q q
+pub overflow_mul-d : goal.overflow_mul-d
+overflow_mul-d c = let q = short (lower (goal.at.overflow_mul-d c).After-times-2) in product q q
 
--- the doubts' sum fits
-sum_fits : (r u d e : ℕ) → r < 2 ^ 64 → u < 2 ^ 64 → d < 2 ^ 64 → e < 2 ^ 64 → Fits w64 (r / 2 ^ 37 + u / 2 ^ 34 + d / 2 ^ 63 + e / 2 ^ 63)
-sum_fits r u d e hr hu hd he = record { fits = omega arith }
+-- a difference that wraps, and what is taken away added again
+again : (m b : ℕ) → b < 2 ^ 64 → ((m % 2 ^ 64 + (2 ^ 64 - b)) % 2 ^ 64 + b) % 2 ^ 64 ≡ m % 2 ^ 64
+again m b h = omega arith
 
-pub overflow_add-result-3 : goal.overflow_add-result-3
-overflow_add-result-3 c =
-    sum_fits _ _ _ _ c.wrapping_sub_u64-r.type_inv c.wrapping_sub_u64-u.type_inv c.wrapping_sub_u64-d.type_inv c.wrapping_sub_u64-e.type_inv
+again-small : (m b : ℕ) → m < 2 ^ 64 → b < 2 ^ 64 → ((m + (2 ^ 64 - b)) % 2 ^ 64 + b) % 2 ^ 64 ≡ m
+again-small m b h k = omega arith
+
+twice : (s q : ℕ) → s < 2 ^ 32 → q < 2 ^ 28 → 2 * (s * 2 ^ 22 % 2 ^ 64 + q) < 2 ^ 64
+twice s q h k = omega arith
 
 pub returns : goal.returns
 returns c lo hi none =
-    told c.args.n _ _ _ _ _ _ lo hi (upper (goal.at.returns c).After-times) (lower (goal.at.returns c).After-times-2) c.wrapping_sub_u64-r.ensures.value c.wrapping_sub_u64-u.ensures.value c.wrapping_sub_u64-d.ensures.value
-    c.wrapping_sub_u64-e.ensures.value none
+    let s = upper (goal.at.returns c).After-times in
+    let q = lower (goal.at.returns c).After-times-2 in
+    let most = short q in
+    told c.args.n _ _ _ _ _ _ lo hi s q (again _ _ (product s s).fits) (again _ _ (product s most).fits) (again _ _ (product most most).fits) (again-small _ _ (twice _ _ s q) (mod-lt _ (lit< tt))) none
