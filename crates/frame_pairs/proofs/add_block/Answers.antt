@@ -24,13 +24,13 @@ pub loop-j-preserved : goal.loop-j-preserved
 unfolding block_in
 loop-j-preserved c =
     let l = c.loop-j in
-    (search rules, c.add_numbers.auto.h ∙ l.invariant.1, block_more _ l.h _ _ _ _ _ l.j l.invariant.2 c.add_numbers.ensures)
+    (c.add_numbers.auto.h ∙ l.invariant.0, block_more _ l.h _ _ _ _ _ l.j l.invariant.1 c.add_numbers.ensures)
 
 pub returns : goal.returns
-returns c = block_all _ _ _ _ _ c.loop-j.j _ (omega arith) c.loop-j.invariant.2
+returns c = block_all _ _ _ _ _ c.loop-j.j _ (omega arith) c.loop-j.invariant.1
 
 pub loop-j-init : goal.loop-j-init
-loop-j-init c = (search rules, refl, upto-none _ _)
+loop-j-init c = (refl, upto-none _ _)
 
 pub overflow_mul-base : goal.overflow_mul-base
 overflow_mul-base c = omega (arith, inside c)

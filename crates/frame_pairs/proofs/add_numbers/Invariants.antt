@@ -1,4 +1,4 @@
-use Prim.Native.Nat.{◌+◌, ◌≤◌, ◌-◌}
+use Prim.Native.Nat.{◌+◌}
 use mathlib.Core.Path.{◌≡◌}
 use lib.ListN.{length}
 use Rattle.terms.specs.Terms.{add_all, upto, cell_at}
@@ -7,7 +7,4 @@ use Rattle.frame_pairs.proofs.add_numbers.Given as goal
 
 abbrev pub invariant-loop-i : goal.invariant-loop-i
 invariant-loop-i l =
-    (l.i ≤ l.width) × (length l.h ≡ length l.initial.h) × (l.h ≡ add_all l.initial.h (upto l.i (cell_at l.at (λ i. lane l.cells l.k (l.e + i)))))
-
-abbrev pub decreases-loop-i : goal.decreases-loop-i
-decreases-loop-i l = l.width - l.i
+    (length l.h ≡ length l.initial.h) × (l.h ≡ add_all l.initial.h (upto l.i (cell_at l.at (λ i. lane l.cells l.k (l.e + i)))))

@@ -8,16 +8,16 @@ use Rattle.frame_pairs.proofs.dot.Goals as goal
 
 pub loop-r-init : goal.loop-r-init
 unfolding number_from
-loop-r-init c = (omega arith, omega arith, rw add-zero)
+loop-r-init c = rw add-zero
 
 pub loop-r-preserved : goal.loop-r-preserved
 unfolding number_from
 loop-r-preserved c =
     let l = c.loop-r in
-    (omega arith, omega arith, rw l.invariant.2 (sym (sum_to_more l.r _ l.invariant.0)))
+    rw l.invariant (sym (sum_to_more l.r _ l.auto.r))
 
 pub returns : goal.returns
 returns c =
     let l = c.loop-r in
     let e : l.r ≡ c.args.rows = omega arith in
-    rw e at l.invariant.2
+    rw e at l.invariant

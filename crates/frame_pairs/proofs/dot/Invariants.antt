@@ -1,4 +1,3 @@
-use Prim.Native.Nat.{◌≤◌, ◌-◌}
 use mathlib.Core.Path.{◌≡◌}
 use Rattle.sums.specs.Sum.{◌⊗◌, sum_to}
 use Rattle.lists.specs.Part.{◌!◌}
@@ -6,7 +5,4 @@ use Rattle.normal_blocks.specs.Target.{number_from}
 use Rattle.frame_pairs.proofs.dot.Given as goal
 
 abbrev pub invariant-loop-r : goal.invariant-loop-r
-invariant-loop-r l = (1 ≤ l.r) × (l.r ≤ l.rows) × (l.sum ≡ sum_to l.r (λ q. number_from l.t l.from q ⊗ (l.x ! q)))
-
-abbrev pub decreases-loop-r : goal.decreases-loop-r
-decreases-loop-r l = l.rows - l.r
+invariant-loop-r l = l.sum ≡ sum_to l.r (λ q. number_from l.t l.from q ⊗ (l.x ! q))

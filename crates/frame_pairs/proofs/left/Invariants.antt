@@ -1,4 +1,3 @@
-use Prim.Native.Nat.{◌-◌}
 use Rattle.sums.specs.Fill.{Filling}
 use Rattle.lists.specs.Part.{◌!◌}
 use Rattle.block_transforms.specs.Transform.{entry_from, transformed_vector}
@@ -6,6 +5,3 @@ use Rattle.frame_pairs.proofs.left.Given as goal
 
 abbrev pub invariant-loop-i : goal.invariant-loop-i
 invariant-loop-i l = Filling 9 l.cols (transformed_vector l.rows (entry_from l.t l.at l.rows) (λ q. l.x ! q)) l.row l.i
-
-abbrev pub decreases-loop-i : goal.decreases-loop-i
-decreases-loop-i l = l.cols - l.i

@@ -8,16 +8,16 @@ use Rattle.frame_pairs.proofs.put.Goals as goal
 pub loop-i-preserved : goal.loop-i-preserved
 loop-i-preserved c =
     let l = c.loop-i in
-    (search rules, put_more _ _ _ _ l.i l.cells _ (search rules) (search rules) refl l.invariant.1)
+    put_more _ _ _ _ l.i l.cells _ (search rules) (search rules) refl l.invariant
 
 pub returns : goal.returns
 returns c =
     let l = c.loop-i in
     let e : l.i ≡ c.args.width = omega arith in
-    rw e at l.invariant.1
+    rw e at l.invariant
 
 pub loop-i-init : goal.loop-i-init
-loop-i-init c = (search rules, put-none _ _ _ _)
+loop-i-init c = put-none _ _ _ _
 
 pub bounds-cells-e : goal.bounds-cells-e
-bounds-cells-e c = omega (arith, c.loop-i.invariant.1.long)
+bounds-cells-e c = omega (arith, c.loop-i.invariant.long)
