@@ -60,10 +60,6 @@ module _ {A : Type 0} where
     unfolding replaced
     at_place h = rw (lt-ltb place words h)
 
--- a word ends within the list
-pub place_ends : (size words place : ℕ) → place < words → size * place + size ≤ size * words
-place_ends size words place h = omega (arith, mul_comm size place, mul_comm size words, suc-mul place size, mul-le-mul_right size h)
-
 -- ---- what is made, column after column
 -- +0 without the first n numbers
 fewer_zeros : (n m : ℕ) → drop n (replicate (n + m) zero_f) ≡ replicate m zero_f

@@ -1,11 +1,9 @@
 -- `transform_maps::made_chained` meets its contract: after c turns the first c columns are there. Assumes nothing.
 use Prim.Native.Nat.{◌+◌, ◌*◌, ◌≤◌}
-use mathlib.Core.Path.{◌≡◌, ap, ◌∙◌}
+use mathlib.Core.Path.{◌≡◌, ◌∙◌}
 use native.Mathlib.Omega.{arith}
-use borrow.Author.Rules.{rules}
-use lib.ListN.{length}
 use Rattle.sums.specs.Fill.{column_ends}
-use Rattle.transform_maps.proofs.Laws.{made_none, made_more, length_made, column-written}
+use Rattle.transform_maps.proofs.Laws.{made_none, made_more, column-written}
 use Rattle.transform_maps.proofs.made_chained.Goals as goal
 use Rattle.transform_maps.proofs.made_chained.Goals.{In-loop-c}
 
@@ -20,21 +18,21 @@ column-sums-requires c =
 pub write_rows-requires : goal.write_rows-requires
 write_rows-requires c =
     let l = c.loop-c in
-    (c.requires.0, fits (goal.at.write_rows-requires c).In-loop-c, ap length l.invariant.1 ∙ length_made _ l.c _ (omega (arith, fits (goal.at.write_rows-requires c).In-loop-c)))
+    (c.requires.0, fits (goal.at.write_rows-requires c).In-loop-c)
 
 pub loop-c-preserved : goal.loop-c-preserved
 loop-c-preserved c =
     let l = c.loop-c in
-    (search rules, made_more c.args.rows _ l.c l.made _ (fits (goal.at.loop-c-preserved c).In-loop-c) (c.write_rows.ensures ∙ column-written _ _ _ 9 _ _ c.requires.0 c.column-sums.ensures) l.invariant.1)
+    made_more c.args.rows _ l.c l.made _ (fits (goal.at.loop-c-preserved c).In-loop-c) (c.write_rows.ensures ∙ column-written _ _ _ 9 _ _ c.requires.0 c.column-sums.ensures) l.invariant
 
 pub returns : goal.returns
 returns c =
     let l = c.loop-c in
-    let e : l.c ≡ c.args.cols = omega (arith, c.loop-c-test.false, l.invariant.0) in
-    rw e at l.invariant.1
+    let e : l.c ≡ c.args.cols = omega (arith, c.loop-c-test.false) in
+    rw e at l.invariant
 
 pub loop-c-init : goal.loop-c-init
-loop-c-init c = (search rules, made_none _ _)
+loop-c-init c = made_none _ _
 
 pub overflow_mul-c : goal.overflow_mul-c
 overflow_mul-c c = omega (arith, fits (goal.at.overflow_mul-c c).In-loop-c)

@@ -1,11 +1,10 @@
 -- `transform_maps::replace` meets its contract: the list before the call, with the new elements at the place. Assumes nothing.
-use Prim.Native.Nat.{◌+◌, ◌*◌, ◌≤◌}
+use Prim.Native.Nat.{◌+◌, ◌*◌}
 use native.Mathlib.Omega.{arith}
 use mathlib.Core.Path.{refl, sym, ◌∙◌}
 use mathlib.Core.Logic.{⊎_elim, inl, inr}
-use Rattle.transform_maps.proofs.Laws.{past_end, at_place, part_back, place_ends}
+use Rattle.transform_maps.proofs.Laws.{past_end, at_place, part_back}
 use Rattle.transform_maps.proofs.replace.Goals as goal
-use Rattle.transform_maps.proofs.replace.Goals.{Else-place-words}
 
 pub copy_or_fill-requires : goal.copy_or_fill-requires
 copy_or_fill-requires g c = record {
@@ -16,10 +15,6 @@ copy_or_fill-requires g c = record {
 
 pub returns-then-place-words : goal.returns-then-place-words
 returns-then-place-words g c = c.copy_or_fill.ensures ∙ rw c.requires.sizes.1 (past_end _ _ g.row.N _ _ c.if-place-words.true)
-
--- the word at the place ends within the list
-ends : (g : _) (c : Else-place-words g) → g.row.N * c.args.place + g.row.N ≤ g.row.N * c.args.words
-ends g c = place_ends g.row.N c.args.words c.args.place c.if-place-words.false
 
 pub returns : goal.returns
 returns g c =
