@@ -25,8 +25,8 @@ use Rattle.block_transforms.proofs.Laws.{Passed, passed, exceeds-none, refusal_n
 use Rattle.plane_fit.specs.Fit.{Shaped, frame_count, fit_mean}
 use Rattle.plane_fit.specs.Calls.{bad_frames, bad_fixed, bad_actions, one_each, shaped}
 use Rattle.plane_fit.specs.Axis.{smallest_axis}
-use Rattle.plane_fit.specs.declared.axis.Fit.{Fit}
-use Rattle.plane_fit.specs.declared.axis.Fit.TheVariants.{Plane, NoPlane}
+use Rattle.std.specs.Prelude.{Option, Some, None}
+use Rattle.plane.specs.declared.Plane.{Plane}
 use Rattle.frame_cost.specs.Cost.{weight_of}
 use Rattle.frame_blocks.specs.Frames.{Ready, AllAdded}
 use Rattle.plane_moments.specs.Accumulate.{FramesWork, bad_lengths, bad_slices, transformed_frames_refusal, fit_of, cost_under, plane_frames, frames_of, under_fit, called, transformed_frames_call, frames_refusal, frames_call}
@@ -65,7 +65,7 @@ accepted_call m n b h =
     }
 
 -- the fit as it is worked out
-pub fit_is : (w : FramesWork) (mean : List Float) (r : Fit) → mean ≡ fit_mean w.frames w.fixed w.actions → r ≡ smallest_axis w.decomposition mean → fit_of w ≡ r
+pub fit_is : (w : FramesWork) (mean : List Float) (r : Option Plane) → mean ≡ fit_mean w.frames w.fixed w.actions → r ≡ smallest_axis w.decomposition mean → fit_of w ≡ r
 unfolding fit_of
 fit_is w mean r e q = sym (q ∙ ap (smallest_axis w.decomposition) e)
 
@@ -76,18 +76,18 @@ module _ (h g : List Float) (x : Float) (b : Beside FramesWork) where
   refused_call r e no_zero = accumulated_refused h g x (transformed_frames_refusal (length h) (length g) b) r (called (length g) b) e no_zero
 
   module _ (accepted : transformed_frames_refusal (length h) (length g) b ≡ 0) where
-    pub no_plane_call : fit_of b.work ≡ NoPlane → Accumulated (transformed_frames_call (length h) (length g) b) h g x 0 h g zero_f
+    pub no_plane_call : fit_of b.work ≡ None → Accumulated (transformed_frames_call (length h) (length g) b) h g x 0 h g zero_f
     unfolding transformed_frames_call called under_fit
     no_plane_call none = rw none (accumulated_idle h g x (transformed_frames_refusal (length h) (length g) b) zero_f accepted)
 
-    pub plane_call : (u v w offset r : Float) (h' g' : List Float) → fit_of b.work ≡ Plane u v w offset → r ≡ cost_under b.work (u ∷ v ∷ w ∷ []) offset
-        → h' ≡ add_all h (upto (frame_count b.work.frames) (frame_hessian (length g) (frames_of b (u ∷ v ∷ w ∷ []) offset)))
-        → g' ≡ add_all g (upto (frame_count b.work.frames) (frame_gradient (frames_of b (u ∷ v ∷ w ∷ []) offset)))
+    pub plane_call : (p : Plane) (r : Float) (h' g' : List Float) → fit_of b.work ≡ Some p → r ≡ cost_under b.work p.normal p.offset
+        → h' ≡ add_all h (upto (frame_count b.work.frames) (frame_hessian (length g) (frames_of b p.normal p.offset)))
+        → g' ≡ add_all g (upto (frame_count b.work.frames) (frame_gradient (frames_of b p.normal p.offset)))
         → Accumulated (transformed_frames_call (length h) (length g) b) h g x 0 h' g' r
     unfolding transformed_frames_call called under_fit
-    plane_call u v w offset r h' g' found cost hessian gradient =
+    plane_call p r h' g' found cost hessian gradient =
         rw found
-        (accumulated_framed h g x (transformed_frames_refusal (length h) (length g) b) (length g) (cost_under b.work (u ∷ v ∷ w ∷ []) offset) r (frames_of b (u ∷ v ∷ w ∷ []) offset) h' g' accepted cost hessian gradient)
+        (accumulated_framed h g x (transformed_frames_refusal (length h) (length g) b) (length g) (cost_under b.work p.normal p.offset) r (frames_of b p.normal p.offset) h' g' accepted cost hessian gradient)
 
 -- ---- WITHOUT TRANSFORMS, which document 01 knows nothing of: its tests, and its frames
 abbrev first_tests : FramesWork → Bool → ℕ → ℕ
@@ -120,12 +120,12 @@ plain_ready m n w h =
     let a = accepted_call m n (without w) h in
     record { narrow = a.narrow; square = a.square; acted = a.acted; fits = sym (exceeds-none n w.dof w.map (frame_count w.frames)) ∙ a.last.fits }
 
-pub plain_call : (h g : List Float) (x : Float) (w : FramesWork) (a b c offset weight r : Float) (h' g' : List Float) → frames_refusal (length h) (length g) w ≡ 0
-    → fit_of w ≡ Plane a b c offset → weight ≡ weight_of w.sigma
-    → AllAdded (length g) w.dof w.frames w.fixed w.actions w.map (a ∷ b ∷ c ∷ []) offset weight r h h' g g' → Accumulated (frames_call (length h) (length g) w) h g x 0 h' g' r
-plain_call h g x w a b c offset weight r h' g' accepted found weighed added =
-    let all : AllAdded (length g) w.dof w.frames w.fixed w.actions w.map (a ∷ b ∷ c ∷ []) offset (weight_of w.sigma) r h h' g g' = rw weighed at added in
-    let same = sym (plain_frames w (a ∷ b ∷ c ∷ []) offset) in
-    plane_call h g x (without w) accepted a b c offset r h' g' found all.cost
+pub plain_call : (h g : List Float) (x : Float) (w : FramesWork) (p : Plane) (weight r : Float) (h' g' : List Float) → frames_refusal (length h) (length g) w ≡ 0
+    → fit_of w ≡ Some p → weight ≡ weight_of w.sigma
+    → AllAdded (length g) w.dof w.frames w.fixed w.actions w.map p.normal p.offset weight r h h' g g' → Accumulated (frames_call (length h) (length g) w) h g x 0 h' g' r
+plain_call h g x w p weight r h' g' accepted found weighed added =
+    let all : AllAdded (length g) w.dof w.frames w.fixed w.actions w.map p.normal p.offset (weight_of w.sigma) r h h' g g' = rw weighed at added in
+    let same = sym (plain_frames w p.normal p.offset) in
+    plane_call h g x (without w) accepted p r h' g' found all.cost
     (all.hessian ∙ ap (λ (f : Frames). add_all h (upto (frame_count w.frames) (frame_hessian (length g) f))) same)
     (all.gradient ∙ ap (λ (f : Frames). add_all g (upto (frame_count w.frames) (frame_gradient f))) same)

@@ -1,5 +1,5 @@
 -- Accumulating frames: the calls that the contracts speak of, from their own inputs and the two lengths. Definitions only.
-use Rattle.std.specs.Prelude.{ℕ, Bool, not, ◌||◌, List, [], ◌∷◌, ltb, eqb, length, Float}
+use Rattle.std.specs.Prelude.{ℕ, Bool, not, ◌||◌, List, ◌∷◌, ltb, eqb, length, Option, Some, None, Float}
 use Rattle.refusals.specs.Refusal.{◌when◌, first_of}
 use Rattle.sums.specs.Sum.{zero_f}
 use Rattle.validate.specs.Finite.{finite_positive}
@@ -13,8 +13,7 @@ use Rattle.block_transforms.specs.Reasons.{bad_beside, through_reasons}
 use Rattle.plane_fit.specs.Fit.{frame_count, fit_mean}
 use Rattle.plane_fit.specs.Calls.{bad_frames, bad_fixed, bad_actions}
 use Rattle.plane_fit.specs.Axis.{smallest_axis}
-use Rattle.plane_fit.specs.declared.axis.Fit.{Fit}
-use Rattle.plane_fit.specs.declared.axis.Fit.TheVariants.{Plane, NoPlane}
+use Rattle.plane.specs.declared.Plane.{Plane}
 use Rattle.frame_cost.specs.Cost.{weight_of, frames_cost}
 use Rattle.frame_blocks.specs.Frames.{frames_under}
 
@@ -66,7 +65,7 @@ transformed_frames_refusal m n b =
 -- ---- what it is where it is accepted
 
 -- the fit, of the decomposition that is handed in and the mean that is worked out again
-unfoldable pub fit_of : FramesWork → Fit
+unfoldable pub fit_of : FramesWork → Option Plane
 fit_of w = smallest_axis w.decomposition (fit_mean w.frames w.fixed w.actions)
 
 abbrev pub cost_under : FramesWork → List Float → Float → Float
@@ -80,9 +79,9 @@ abbrev pub frames_of : Beside FramesWork → List Float → Float → Frames
 frames_of b normal offset = through (shape_at b.shapes) b.transforms (plane_frames b.work normal offset)
 
 -- frame after frame under the plane. "No plane: cost 0, no cell changed"
-unfoldable pub under_fit : ℕ → Beside FramesWork → Fit → Call
-under_fit n b (Plane u v w offset) = framed n (cost_under b.work (u ∷ v ∷ w ∷ []) offset) (frames_of b (u ∷ v ∷ w ∷ []) offset)
-under_fit n b NoPlane = idle zero_f
+unfoldable pub under_fit : ℕ → Beside FramesWork → Option Plane → Call
+under_fit n b (Some p) = framed n (cost_under b.work p.normal p.offset) (frames_of b p.normal p.offset)
+under_fit n b None = idle zero_f
 
 unfoldable pub called : ℕ → Beside FramesWork → Call
 called n b = under_fit n b (fit_of b.work)

@@ -1,7 +1,7 @@
 -- Linearizing frames: why the call is refused, and the residuals and the Jacobian that it leaves where it is not. Definitions, and what an accepted call is
 -- known by; assumes nothing.
 -- frames, fixed: centred sets; ds: the decompositions by their bit patterns, the fit's, one a frame, and the fixed set's if there is one.
-use Rattle.std.specs.Prelude.{ℕ, ◌+◌, ◌*◌, ◌≤◌, ◌≡◌, refl, Bool, not, ◌||◌, ◌&&◌, ltb, eqb, Float}
+use Rattle.std.specs.Prelude.{ℕ, ◌+◌, ◌*◌, ◌≤◌, ◌≡◌, refl, Bool, not, ◌||◌, ◌&&◌, ltb, eqb, Option, Some, None, Float}
 use Rattle.std.proofs.Common.{mul-zero, zero-mul, sym, ap₂, ◌∙◌}
 use native.Mathlib.Omega.{arith}
 use Rattle.std.proofs.Math.Path.{ap}
@@ -18,8 +18,7 @@ use Rattle.decomposition.specs.Gaps.{one}
 use Rattle.plane_fit.specs.Axis.{smallest_axis}
 use Rattle.plane_fit.specs.Fit.{Shaped, frame_count, fit_mean}
 use Rattle.plane_fit.specs.Calls.{bad_frames, bad_fixed, bad_actions, whole_fixed, one_each, shaped}
-use Rattle.plane_fit.specs.declared.axis.Fit.{Fit}
-use Rattle.plane_fit.specs.declared.axis.Fit.TheVariants.{Plane, NoPlane}
+use Rattle.plane.specs.declared.Plane.{Plane}
 use Rattle.point_moments.specs.Scatter.{CENTRED}
 use Rattle.derivative.specs.Action.{action_size, most_dof}
 use Rattle.frame_roots.specs.Roots.{decomposition_at}
@@ -59,11 +58,10 @@ unfoldable pub wanted : ℕ → ℕ → ℕ
 wanted dof cells = cond (eqb cells 0) 0 dof
 
 -- the residuals and the Jacobian under a plane; without one all residuals and the whole Jacobian are +0
-unfoldable pub under_fit : Fit → List Float → List Float → List Float → List ℕ → Float → ℕ → List Float × List Float
-under_fit (Plane a b c offset) frames fixed actions ds info width =
-    let n = a ∷ b ∷ c ∷ [] in
-    (residual_of frames fixed actions ds n offset info, jacobian_of frames actions ds n info width)
-under_fit NoPlane frames fixed actions ds info width =
+unfoldable pub under_fit : Option Plane → List Float → List Float → List Float → List ℕ → Float → ℕ → List Float × List Float
+under_fit (Some p) frames fixed actions ds info width =
+    (residual_of frames fixed actions ds p.normal p.offset info, jacobian_of frames actions ds p.normal info width)
+under_fit None frames fixed actions ds info width =
     (replicate (row_count frames) zero_f, replicate (frame_count frames * width * row_count frames) zero_f)
 
 -- the fit's decomposition is the first of the list; information is 1 / sigma
@@ -143,28 +141,28 @@ module _ (dof : ℕ) (frames fixed : List Float) (sigma : Float) (actions : List
       own count n e = omega arith
 
 -- ---- the call's two answers where it is accepted
-module _ (dof : ℕ) (frames fixed : List Float) (sigma : Float) (actions : List Float) (ds : List ℕ) (residual jacobian : List Float) (taken : linearize_refusal dof frames fixed sigma actions (length ds) (length residual) (length jacobian) ≡ 0) (mean : List Float) (d : List ℕ) (fit : Fit) (centred : mean ≡ fit_mean frames fixed actions) (first : d ≡ decomposition_at ds 0) (fitted : fit ≡ smallest_axis d mean) where
+module _ (dof : ℕ) (frames fixed : List Float) (sigma : Float) (actions : List Float) (ds : List ℕ) (residual jacobian : List Float) (taken : linearize_refusal dof frames fixed sigma actions (length ds) (length residual) (length jacobian) ≡ 0) (mean : List Float) (d : List ℕ) (fit : Option Plane) (centred : mean ≡ fit_mean frames fixed actions) (first : d ≡ decomposition_at ds 0) (fitted : fit ≡ smallest_axis d mean) where
   fit_is : fit ≡ smallest_axis (decomposition_at ds 0) (fit_mean frames fixed actions)
   fit_is = fitted ∙ ap (λ (x : List ℕ). smallest_axis x mean) first ∙ ap (λ (m : List Float). smallest_axis (decomposition_at ds 0) m) centred
 
   -- the answer by the fit that was found
-  answer : (found : Fit) (residual' jacobian' : List Float) → fit ≡ found → (residual', jacobian') ≡ under_fit found frames fixed actions ds (div binary64 one sigma) (wanted dof (length jacobian)) → Linearizes dof frames fixed sigma actions ds residual jacobian 0 residual' jacobian'
+  answer : (found : Option Plane) (residual' jacobian' : List Float) → fit ≡ found → (residual', jacobian') ≡ under_fit found frames fixed actions ds (div binary64 one sigma) (wanted dof (length jacobian)) → Linearizes dof frames fixed sigma actions ds residual jacobian 0 residual' jacobian'
   unfolding linearized
   answer found residual' jacobian' e h =
-      accepted taken (h ∙ ap (λ (f : Fit). under_fit f frames fixed actions ds (div binary64 one sigma) (wanted dof (length jacobian))) (sym e ∙ fit_is))
+      accepted taken (h ∙ ap (λ (f : Option Plane). under_fit f frames fixed actions ds (div binary64 one sigma) (wanted dof (length jacobian))) (sym e ∙ fit_is))
 
-  pub plane_call : (a b c offset : Float) (width : ℕ) (residual' jacobian' : List Float) → fit ≡ Plane a b c offset → width ≡ wanted dof (length jacobian)
-      → residual' ≡ residual_of frames fixed actions ds (a ∷ b ∷ c ∷ []) offset (div binary64 one sigma)
-      → jacobian' ≡ jacobian_of frames actions ds (a ∷ b ∷ c ∷ []) (div binary64 one sigma) width
+  pub plane_call : (p : Plane) (width : ℕ) (residual' jacobian' : List Float) → fit ≡ Some p → width ≡ wanted dof (length jacobian)
+      → residual' ≡ residual_of frames fixed actions ds p.normal p.offset (div binary64 one sigma)
+      → jacobian' ≡ jacobian_of frames actions ds p.normal (div binary64 one sigma) width
       → Linearizes dof frames fixed sigma actions ds residual jacobian 0 residual' jacobian'
   unfolding under_fit
-  plane_call a b c offset width residual' jacobian' e w r j =
-      answer (Plane a b c offset) residual' jacobian' e
-      (ap₂ (λ (x y : List Float). (x, y)) r (j ∙ ap (λ (m : ℕ). jacobian_of frames actions ds (a ∷ b ∷ c ∷ []) (div binary64 one sigma) m) w))
+  plane_call p width residual' jacobian' e w r j =
+      answer (Some p) residual' jacobian' e
+      (ap₂ (λ (x y : List Float). (x, y)) r (j ∙ ap (λ (m : ℕ). jacobian_of frames actions ds p.normal (div binary64 one sigma) m) w))
 
-  pub no_plane_call : (residual' jacobian' : List Float) → fit ≡ NoPlane → residual' ≡ replicate (length residual) zero_f → jacobian' ≡ replicate (length jacobian) zero_f → Linearizes dof frames fixed sigma actions ds residual jacobian 0 residual' jacobian'
+  pub no_plane_call : (residual' jacobian' : List Float) → fit ≡ None → residual' ≡ replicate (length residual) zero_f → jacobian' ≡ replicate (length jacobian) zero_f → Linearizes dof frames fixed sigma actions ds residual jacobian 0 residual' jacobian'
   unfolding under_fit
   no_plane_call residual' jacobian' e r j =
       let room = (accepted_call dof frames fixed sigma actions ds (length residual) (length jacobian) taken).room in
-      answer NoPlane residual' jacobian' e
+      answer None residual' jacobian' e
       (ap₂ (λ (x y : List Float). (x, y)) (r ∙ ap (λ (m : ℕ). replicate m zero_f) room.residual_whole) (j ∙ ap (λ (m : ℕ). replicate m zero_f) room.jacobian_whole))

@@ -1,12 +1,13 @@
 // Accumulating frames: the cost under the fitted plane, and each mapped frame's block and vector added to a Hessian and a gradient.
 ghost use Rattle.std.specs.Prelude.{◌≡◌, List, length, Float};
+ghost use Rattle.refusals.specs.Number.{number};
 ghost use Rattle.call_lists.specs.Accumulated.{Accumulated};
 ghost use Rattle.plane_moments.specs.Accumulate.{FramesWork, bad_lengths, frames_refusal, frames_call, work};
 
 use decomposition::DECOMPOSITION;
 use derivative::MOST_DOF;
-use plane_fit::axis::Fit;
 use point_moments::scatter::CENTRED;
+use refusals::Refusal;
 
 // 3: the frames, the fixed set, the decomposition, and the target of so many cells and n rows with its map of so many words.
 pub fn bad_lengths(
@@ -31,7 +32,7 @@ pub fn bad_lengths(
     normal_blocks::bad_target(words, cells, n)
 }
 
-// The number of the reason to refuse, or 0.
+// Why the call is refused.
 fn refusal(
     dof: u32,
     frames: &[f64],
@@ -42,23 +43,23 @@ fn refusal(
     map: &[u32],
     cells: usize,
     n: usize,
-) -> u32
-    ensures { result ≡ frames_refusal cells n (work dof frames.now fixed.now sigma actions.now decomposition.now map.now) }
+) -> Result<(), Refusal>
+    ensures { number result ≡ frames_refusal cells n (work dof frames.now fixed.now sigma actions.now decomposition.now map.now) }
 {
     if dof > MOST_DOF {
-        return 1;
+        return Err(Refusal::DofTooLarge);
     }
     if frames.len() == 0 {
-        return 2;
+        return Err(Refusal::EmptyList);
     }
     if bad_lengths(frames, fixed, decomposition, map.len(), cells, n) {
-        return 3;
+        return Err(Refusal::WrongLength);
     }
     if !validate::is_positive(sigma) {
-        return 7;
+        return Err(Refusal::BadSigma);
     }
     if plane_fit::bad_actions(frames, actions) {
-        return 8;
+        return Err(Refusal::WrongActions);
     }
     normal_blocks::map_refusal(map, frames.len() / CENTRED, dof as usize, n)
 }
@@ -80,7 +81,7 @@ fn add_fitted(
 {
     let mean = plane_fit::fit_mean(frames, fixed, actions);
     match plane_fit::axis::smallest_axis(decomposition, mean) {
-        Fit::Plane(a, b, c, offset) => {
+        Some(plane) => {
             let weight = frame_cost::weight(sigma);
             frame_blocks::add_all(
                 hessian,
@@ -90,16 +91,15 @@ fn add_fitted(
                 fixed,
                 actions,
                 map,
-                [a, b, c],
-                offset,
+                plane,
                 weight,
             )
         }
-        Fit::NoPlane => 0.0,
+        None => 0.0,
     }
 }
 
-// The host's call. The number of the reason to refuse, or 0.
+// The host's call.
 pub fn accumulate(
     dof: u32,
     frames: &[f64],
@@ -111,15 +111,12 @@ pub fn accumulate(
     hessian: &mut [f64],
     gradient: &mut [f64],
     cost: &mut f64,
-) -> u32
-    ensures { Accumulated (frames_call (length hessian.old) (length gradient.old) (work dof frames.now fixed.now sigma actions.now decomposition.now map.now)) hessian.old gradient.old cost.old result hessian.new gradient.new cost.new }
+) -> Result<(), Refusal>
+    ensures { Accumulated (frames_call (length hessian.old) (length gradient.old) (work dof frames.now fixed.now sigma actions.now decomposition.now map.now)) hessian.old gradient.old cost.old (number result) hessian.new gradient.new cost.new }
 {
     let m = hessian.len();
     let n = gradient.len();
-    let why = refusal(dof, frames, fixed, sigma, actions, decomposition, map, m, n);
-    if why != 0 {
-        return why;
-    }
+    refusal(dof, frames, fixed, sigma, actions, decomposition, map, m, n)?;
     *cost = add_fitted(
         dof,
         frames,
@@ -131,5 +128,5 @@ pub fn accumulate(
         hessian,
         gradient,
     );
-    0
+    Ok(())
 }

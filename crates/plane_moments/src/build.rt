@@ -2,6 +2,7 @@
 ghost use Rattle.std.specs.Prelude.{◌≡◌, ◌⊎◌, ◌*◌, length};
 ghost use Rattle.point_moments.specs.Moments.{MOMENTS};
 ghost use Rattle.refusals.specs.Refusal.{first_of, Answered};
+ghost use Rattle.refusals.specs.Number.{number};
 ghost use Rattle.frame_sets.specs.Sets.{set_count, count_reasons};
 ghost use Rattle.plane_moments.specs.Build.{bad_shapes, Whole, outputs, built, Builds};
 ghost use Rattle.plane_moments.specs.Steps.{shape_refusal, set_refusal};
@@ -10,6 +11,7 @@ use derivative::MOST_DOF;
 use plane_fit::MOST_FRAMES;
 use point_moments::MOMENTS;
 use point_moments::scatter::CENTRED;
+use refusals::Refusal;
 
 // 3: a list that is not whole records or too long, or an output that is not one centred set for each set.
 fn bad_shapes(frames: &[f64], fixed: &[f64], centred_frames: &[f64], centred_fixed: &[f64]) -> bool
@@ -27,44 +29,50 @@ fn bad_shapes(frames: &[f64], fixed: &[f64], centred_frames: &[f64], centred_fix
     plane_fit::bad_count(fixed, MOMENTS, centred_fixed, CENTRED)
 }
 
-// 1, 2 and 3: the tests that look at numbers of parameters and sets alone. The number of the reason to refuse, or 0.
+// 1, 2 and 3: the tests that look at numbers of parameters and sets alone.
 pub fn shape_refusal(
     dof: u32,
     frames: &[f64],
     fixed: &[f64],
     centred_frames: &[f64],
     centred_fixed: &[f64],
-) -> u32
-    ensures { result ≡ shape_refusal dof frames.now fixed.now centred_frames.now centred_fixed.now }
+) -> Result<(), Refusal>
+    ensures { number result ≡ shape_refusal dof frames.now fixed.now centred_frames.now centred_fixed.now }
 {
     if dof > MOST_DOF {
-        return 1;
+        return Err(Refusal::DofTooLarge);
     }
     if frames.len() == 0 {
-        return 2;
+        return Err(Refusal::EmptyList);
     }
     if bad_shapes(frames, fixed, centred_frames, centred_fixed) {
-        return 3;
+        return Err(Refusal::WrongLength);
     }
-    0
+    Ok(())
 }
 
-// 4 to 7: the tests that look at moments and sigma. counts: what 4 and 5 give. The number of the reason to refuse, or 0.
-fn set_refusal(counts: u32, frames: &[f64], fixed: &[f64], sigma: f64) -> u32
-    requires { (counts ≡ first_of (count_reasons frames.now fixed.now)) × ((length frames.now ≡ MOMENTS * set_count frames.now) × ((length fixed.now ≡ 0) ⊎ (length fixed.now ≡ MOMENTS))) }
-    ensures { result ≡ set_refusal frames.now fixed.now sigma }
+// 4 to 7: the tests that look at moments and sigma. counts: what 4 and 5 give.
+fn set_refusal(
+    counts: Result<(), Refusal>,
+    frames: &[f64],
+    fixed: &[f64],
+    sigma: f64,
+) -> Result<(), Refusal>
+    requires { (number counts ≡ first_of (count_reasons frames.now fixed.now)) × ((length frames.now ≡ MOMENTS * set_count frames.now) × ((length fixed.now ≡ 0) ⊎ (length fixed.now ≡ MOMENTS))) }
+    ensures { number result ≡ set_refusal frames.now fixed.now sigma }
 {
-    if counts != 0 {
-        return counts;
-    }
+    counts?;
     if frame_sets::not_finite(frames, fixed) {
-        return 6;
+        return Err(Refusal::NotFinite);
     }
-    if validate::is_positive(sigma) { 0 } else { 7 }
+    if !validate::is_positive(sigma) {
+        return Err(Refusal::BadSigma);
+    }
+    Ok(())
 }
 
 // What the build does where 1, 2 and 3 do not apply: its other tests, and then the frames centred, the fixed set centred or dropped, the point total
-// and whether a fixed set was dropped. The number of the reason to refuse, or 0.
+// and whether a fixed set was dropped.
 pub fn build_sets(
     frames: &[f64],
     fixed: &[f64],
@@ -73,15 +81,12 @@ pub fn build_sets(
     centred_fixed: &mut [f64],
     points: &mut f64,
     fixed_dropped: &mut u32,
-) -> u32
+) -> Result<(), Refusal>
     requires { Whole frames.now fixed.now centred_frames.old centred_fixed.old }
-    ensures { Answered (set_refusal frames.now fixed.now sigma) result (outputs centred_frames.old centred_fixed.old points.old fixed_dropped.old) (outputs centred_frames.new centred_fixed.new points.new fixed_dropped.new) (built frames.now fixed.now centred_fixed.old) }
+    ensures { Answered (set_refusal frames.now fixed.now sigma) (number result) (outputs centred_frames.old centred_fixed.old points.old fixed_dropped.old) (outputs centred_frames.new centred_fixed.new points.new fixed_dropped.new) (built frames.now fixed.now centred_fixed.old) }
 {
     let counts = frame_sets::test_counts(frames, fixed);
-    let refusal = set_refusal(counts.refusal, frames, fixed, sigma);
-    if refusal != 0 {
-        return refusal;
-    }
+    set_refusal(counts.answer, frames, fixed, sigma)?;
     *points = counts.points;
     frame_sets::centre_frames(frames, centred_frames);
     frame_sets::centre_fixed(fixed, centred_fixed);
@@ -90,11 +95,10 @@ pub fn build_sets(
     } else {
         *fixed_dropped = 0;
     }
-    0
+    Ok(())
 }
 
 // The host's call: the frames centred, the fixed set centred or dropped, the point total and whether a fixed set was dropped.
-// The number of the reason to refuse, or 0.
 pub fn build(
     dof: u32,
     frames: &[f64],
@@ -104,13 +108,10 @@ pub fn build(
     centred_fixed: &mut [f64],
     points: &mut f64,
     fixed_dropped: &mut u32,
-) -> u32
-    ensures { Builds dof frames.now fixed.now sigma centred_frames.old centred_fixed.old points.old fixed_dropped.old result centred_frames.new centred_fixed.new points.new fixed_dropped.new }
+) -> Result<(), Refusal>
+    ensures { Builds dof frames.now fixed.now sigma centred_frames.old centred_fixed.old points.old fixed_dropped.old (number result) centred_frames.new centred_fixed.new points.new fixed_dropped.new }
 {
-    let shape = shape_refusal(dof, frames, fixed, centred_frames, centred_fixed);
-    if shape != 0 {
-        return shape;
-    }
+    shape_refusal(dof, frames, fixed, centred_frames, centred_fixed)?;
     build_sets(
         frames,
         fixed,

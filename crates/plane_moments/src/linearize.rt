@@ -1,13 +1,14 @@
 // Linearizing frames: the residuals under the fitted plane, and the Jacobian if it is wanted.
 ghost use Rattle.std.specs.Prelude.{◌≡◌, ◌≤◌, length};
+ghost use Rattle.refusals.specs.Number.{number};
 ghost use Rattle.derivative.specs.Action.{most_dof};
 ghost use Rattle.plane_fit.specs.Calls.{most_frames};
 ghost use Rattle.plane_moments.specs.Linearize.{bad_decompositions, bad_outputs, bad_lengths, wanted, linearize_refusal, Linearizes};
 
 use decomposition::DECOMPOSITION;
 use derivative::MOST_DOF;
-use plane_fit::axis::Fit;
 use point_moments::scatter::CENTRED;
+use refusals::Refusal;
 
 // 3: not a decomposition for the fit, for each frame, and for the fixed set if there is one.
 fn bad_decompositions(patterns: usize, count: usize, fixed: usize) -> bool
@@ -60,7 +61,7 @@ fn bad_lengths(
     bad_outputs(count, dof, residuals, cells)
 }
 
-// The number of the reason to refuse, or 0.
+// Why the call is refused.
 fn refusal(
     dof: u32,
     frames: &[f64],
@@ -70,25 +71,25 @@ fn refusal(
     patterns: usize,
     residuals: usize,
     cells: usize,
-) -> u32
-    ensures { result ≡ linearize_refusal dof frames.now fixed.now sigma actions.now patterns residuals cells }
+) -> Result<(), Refusal>
+    ensures { number result ≡ linearize_refusal dof frames.now fixed.now sigma actions.now patterns residuals cells }
 {
     if dof > MOST_DOF {
-        return 1;
+        return Err(Refusal::DofTooLarge);
     }
     if frames.len() == 0 {
-        return 2;
+        return Err(Refusal::EmptyList);
     }
     if bad_lengths(dof, frames, fixed, patterns, residuals, cells) {
-        return 3;
+        return Err(Refusal::WrongLength);
     }
     if !validate::is_positive(sigma) {
-        return 7;
+        return Err(Refusal::BadSigma);
     }
     if plane_fit::bad_actions(frames, actions) {
-        return 8;
+        return Err(Refusal::WrongActions);
     }
-    0
+    Ok(())
 }
 
 // An empty Jacobian is not wanted: no columns.
@@ -115,28 +116,27 @@ fn write_fitted(
     let width = wanted(dof, jacobian.len());
     let mean = plane_fit::fit_mean(frames, fixed, actions);
     match plane_fit::axis::smallest_axis(frame_roots::decomposition_at(decompositions, 0), mean) {
-        Fit::Plane(a, b, c, offset) => {
+        Some(plane) => {
             frame_rows::write_all(
                 frames,
                 fixed,
                 actions,
                 decompositions,
-                [a, b, c],
-                offset,
+                plane,
                 1.0 / sigma,
                 width,
                 residual,
                 jacobian,
             );
         }
-        Fit::NoPlane => {
+        None => {
             lists::clear(residual);
             lists::clear(jacobian);
         }
     }
 }
 
-// The host's call. The number of the reason to refuse, or 0.
+// The host's call.
 pub fn linearize(
     dof: u32,
     frames: &[f64],
@@ -146,16 +146,13 @@ pub fn linearize(
     decompositions: &[u64],
     residual: &mut [f64],
     jacobian: &mut [f64],
-) -> u32
-    ensures { Linearizes dof frames.now fixed.now sigma actions.now decompositions.now residual.old jacobian.old result residual.new jacobian.new }
+) -> Result<(), Refusal>
+    ensures { Linearizes dof frames.now fixed.now sigma actions.now decompositions.now residual.old jacobian.old (number result) residual.new jacobian.new }
 {
     let patterns = decompositions.len();
     let rows = residual.len();
     let cells = jacobian.len();
-    let why = refusal(dof, frames, fixed, sigma, actions, patterns, rows, cells);
-    if why != 0 {
-        return why;
-    }
+    refusal(dof, frames, fixed, sigma, actions, patterns, rows, cells)?;
     write_fitted(
         dof,
         frames,
@@ -166,5 +163,5 @@ pub fn linearize(
         residual,
         jacobian,
     );
-    0
+    Ok(())
 }

@@ -3,12 +3,15 @@
 #![tactic(auto)]
 
 ghost use Rattle.std.specs.Prelude.{◌≡◌, ◌⊎◌, length};
+ghost use Rattle.refusals.specs.Number.{number};
 ghost use Rattle.point_moments.specs.Moments.{MOMENTS};
 ghost use Rattle.strict_build.specs.Strict.{negative, BuildsStrictly};
 
 use plane_moments::build::{build_sets, shape_refusal};
+use refusals::Refusal;
 
 // 13: the fixed count is below 0.
+#[tactic(auto, unfolding(crate::specs::Strict::negative))]
 fn is_negative(fixed: &[f64]) -> bool
     requires { (length fixed.now ≡ 0) ⊎ (length fixed.now ≡ MOMENTS) }
     ensures { result ≡ negative fixed.now }
@@ -18,7 +21,7 @@ fn is_negative(fixed: &[f64]) -> bool
 }
 
 // The host's call: 1, 2 and 3, then 13, then all else as the build does it. Where 13 does not apply, a set that is dropped has the count 0 or -0, and adding
-// that changes no comparison of the total (`same_test`). The number of the reason to refuse, or 0.
+// that changes no comparison of the total (`same_test`).
 pub fn build_strict(
     dof: u32,
     frames: &[f64],
@@ -28,15 +31,12 @@ pub fn build_strict(
     centred_fixed: &mut [f64],
     points: &mut f64,
     fixed_dropped: &mut u32,
-) -> u32
-    ensures { BuildsStrictly dof frames.now fixed.now sigma centred_frames.old centred_fixed.old points.old fixed_dropped.old result centred_frames.new centred_fixed.new points.new fixed_dropped.new }
+) -> Result<(), Refusal>
+    ensures { BuildsStrictly dof frames.now fixed.now sigma centred_frames.old centred_fixed.old points.old fixed_dropped.old (number result) centred_frames.new centred_fixed.new points.new fixed_dropped.new }
 {
-    let shape = shape_refusal(dof, frames, fixed, centred_frames, centred_fixed);
-    if shape != 0 {
-        return shape;
-    }
+    shape_refusal(dof, frames, fixed, centred_frames, centred_fixed)?;
     if is_negative(fixed) {
-        return 13;
+        return Err(Refusal::NegativeFixedCount);
     }
     build_sets(
         frames,

@@ -1,5 +1,4 @@
 -- `plane_moments::build::bad_shapes` meets its contract: the four tests in their order. Assumes nothing.
-use native.Mathlib.Omega.{arith}
 use Rattle.plane_moments.specs.Build.{bad_shapes}
 use Rattle.plane_moments.proofs.build.bad_shapes.Goals as goal
 
@@ -36,9 +35,3 @@ returns c =
       c.if-bad_count.false,
       c.bad_count-2.ensures,
     )
-
-pub bad_count-requires : goal.bad_count-requires
-bad_count-requires c = (omega arith, omega arith)
-
-pub bad_count-requires-2 : goal.bad_count-requires-2
-bad_count-requires-2 c = (omega arith, omega arith)

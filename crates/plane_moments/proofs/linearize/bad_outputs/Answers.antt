@@ -23,12 +23,6 @@ cells count dof h j =
     let rows : (count + 1) * 4 ≤ 1028 = omega arith in
     mul-le-mul (columns count dof h j) rows
 
-pub overflow_mul-result : goal.overflow_mul-result
-overflow_mul-result c = omega (arith, columns c.args.count c.args.dof c.requires.0 c.requires.1)
-
-pub overflow_mul-result-2 : goal.overflow_mul-result-2
-overflow_mul-result-2 c = omega (arith, cells c.args.count c.args.dof c.requires.0 c.requires.1)
-
 pub returns : goal.returns
 unfolding bad_outputs
 returns c = rw (eq-eqb _ _ c.if-residuals-rows.false, ne_eqb _ _ c.if-cells-eq0.false)

@@ -29,12 +29,12 @@ write_all-requires c =
     let known = accepted_call a.dof a.frames.now a.fixed.now a.sigma a.actions.now a.decompositions.now (length a.residual.now) (length a.jacobian.now) c.requires in
     (rw c.wanted-width.ensures known.room, known.fixed_room)
 
-pub returns-in-Plane : goal.returns-in-Plane
-returns-in-Plane c =
+pub returns-in-Some : goal.returns-in-Some
+returns-in-Some c =
     let a = c.args in
-    plane_call a.dof a.frames.now a.fixed.now a.sigma a.actions.now a.decompositions.now a.residual.now a.jacobian.now c.requires _ _ c.smallest_axis.result c.fit_mean-mean.ensures c.decomposition_at.ensures c.smallest_axis.ensures _ _ _ _ c.wanted-width.result _ _ c.in-Plane.is c.wanted-width.ensures c.write_all.ensures.0 c.write_all.ensures.1
+    plane_call a.dof a.frames.now a.fixed.now a.sigma a.actions.now a.decompositions.now a.residual.now a.jacobian.now c.requires _ _ c.smallest_axis.result c.fit_mean-mean.ensures c.decomposition_at.ensures c.smallest_axis.ensures _ c.wanted-width.result _ _ c.in-Some.is c.wanted-width.ensures c.write_all.ensures.0 c.write_all.ensures.1
 
-pub returns-in-NoPlane : goal.returns-in-NoPlane
-returns-in-NoPlane c =
+pub returns-in-None : goal.returns-in-None
+returns-in-None c =
     let a = c.args in
-    no_plane_call a.dof a.frames.now a.fixed.now a.sigma a.actions.now a.decompositions.now a.residual.now a.jacobian.now c.requires _ _ c.smallest_axis.result c.fit_mean-mean.ensures c.decomposition_at.ensures c.smallest_axis.ensures _ _ c.in-NoPlane.is c.clear.ensures c.clear-in-NoPlane.ensures
+    no_plane_call a.dof a.frames.now a.fixed.now a.sigma a.actions.now a.decompositions.now a.residual.now a.jacobian.now c.requires _ _ c.smallest_axis.result c.fit_mean-mean.ensures c.decomposition_at.ensures c.smallest_axis.ensures _ _ c.in-None.is c.clear.ensures c.clear-in-None.ensures
