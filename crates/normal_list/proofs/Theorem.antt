@@ -1,5 +1,5 @@
 -- DEMAND 3 holds: of any list of calls, in any order where rows are apart, and every list of works has its calls. Assumes nothing.
-use Rattle.std.specs.Prelude.{ℕ, zero, suc, ◌*◌, ◌<◌, ◌≡◌, Bool, true, false, ◌||◌, eqb, ltb, length, get_or, Float}
+use Rattle.std.specs.Prelude.{ℕ, zero, suc, ◌*◌, ◌<◌, ◌≡◌, Bool, true, false, ◌||◌, eqb, ltb, length, get_or, Option, Some, None, Float}
 use Rattle.std.proofs.Math.Path.{refl, ap}
 use Rattle.std.proofs.Common.{sym, ◌∙◌, arith, ne_eqb}
 use Rattle.std.proofs.Math.Bool.{not, or-true}
@@ -23,8 +23,7 @@ use Rattle.call_lists.specs.Frames.{Frames, framed}
 use Rattle.call_lists.specs.FrameLaws.{framed_tame, framed_hessian, framed_gradient}
 use Rattle.call_lists.specs.Fold.{cell_after, after_none}
 use Rattle.call_lists.proofs.Chain.{HasChain, has_chain, whole, Folded, folded, hessian_unowned, gradient_unowned, settled, any_order}
-use Rattle.plane_fit.specs.declared.axis.Fit.{Fit}
-use Rattle.plane_fit.specs.declared.axis.Fit.TheVariants.{Plane, NoPlane}
+use Rattle.plane.specs.declared.Plane.{Plane}
 use Rattle.block_transforms.specs.Transform.{Beside, shape_at}
 use Rattle.block_transforms.specs.Reasons.{through_reasons}
 use Rattle.plane_moments.specs.Accumulate.{FramesWork, bad_lengths, transformed_frames_refusal, fit_of, frames_of, cost_under, under_fit, called, transformed_frames_call}
@@ -44,10 +43,10 @@ judged_tame : (n r : ℕ) (ss : List Segment) (c : Call) → (r ≡ 0 → Tame n
 judged_tame n zero ss c t = t refl
 judged_tame n (suc r) ss c t = record { hessian = tt; gradient = tt }
 
-under_tame : (n : ℕ) (b : Beside FramesWork) (f : Fit) → some_exceeds n (layout_of (frames b)).width (layout_of (frames b)).place (layout_of (frames b)).count ≡ false → Tame n (segments_of (layout_of (frames b))) (under_fit n b f)
+under_tame : (n : ℕ) (b : Beside FramesWork) (f : Option Plane) → some_exceeds n (layout_of (frames b)).width (layout_of (frames b)).place (layout_of (frames b)).count ≡ false → Tame n (segments_of (layout_of (frames b))) (under_fit n b f)
 unfolding under_fit
-under_tame n b (Plane u v w offset) fit = framed_tame n (cost_under b.work (u ∷ v ∷ w ∷ []) offset) (frames_of b (u ∷ v ∷ w ∷ []) offset) fit
-under_tame n b NoPlane fit = record { hessian = tt; gradient = tt }
+under_tame n b (Some p) fit = framed_tame n (cost_under b.work p.normal p.offset) (frames_of b p.normal p.offset) fit
+under_tame n b None fit = record { hessian = tt; gradient = tt }
 
 pub tame : (m n : ℕ) (w : Work) → Tame n (own_segments m n w) (call_of m n w)
 unfolding own_segments transformed_frames_call called transformed_matches_call
@@ -69,11 +68,11 @@ unfolding at_cell
 judged-same n zero c p s = s refl
 judged-same n (suc r) c p s = record { answers = refl; hessian = λ i j l x. refl; gradient = λ i x. refl }
 
-plane-same : (m n : ℕ) (b : Beside FramesWork) (f : Fit) → transformed_frames_refusal m n b ≡ 0 → Same n (under_fit n b f) (frames_page b f)
+plane-same : (m n : ℕ) (b : Beside FramesWork) (f : Option Plane) → transformed_frames_refusal m n b ≡ 0 → Same n (under_fit n b f) (frames_page b f)
 unfolding under_fit at_cell
-plane-same m n b (Plane u v w offset) e =
-    entered-same n (cost_under b.work (u ∷ v ∷ w ∷ []) offset) (frames_of b (u ∷ v ∷ w ∷ []) offset) (accepted_call m n b e).last.fits
-plane-same m n b NoPlane e = record { answers = refl; hessian = λ i j l x. refl; gradient = λ i x. refl }
+plane-same m n b (Some p) e =
+    entered-same n (cost_under b.work p.normal p.offset) (frames_of b p.normal p.offset) (accepted_call m n b e).last.fits
+plane-same m n b None e = record { answers = refl; hessian = λ i j l x. refl; gradient = λ i x. refl }
 
 page_same : (m n : ℕ) (w : Work) → Same n (call_of m n w) (page_of m n w)
 unfolding page_of transformed_frames_call called transformed_matches_call
@@ -198,10 +197,10 @@ judged-result : (r : ℕ) (c : Call) (x : Float) → cost x ≡ answer c → (go
 judged-result zero c x e = (record { number = 0; cost = x }, e)
 judged-result (suc r) c x e = (record { number = suc r; cost = zero_f }, refl)
 
-under_cost : (n : ℕ) (b : Beside FramesWork) (f : Fit) → (x : Float) × (cost x ≡ answer (under_fit n b f))
+under_cost : (n : ℕ) (b : Beside FramesWork) (f : Option Plane) → (x : Float) × (cost x ≡ answer (under_fit n b f))
 unfolding under_fit
-under_cost n b (Plane u v w offset) = (cost_under b.work (u ∷ v ∷ w ∷ []) offset, refl)
-under_cost n b NoPlane = (zero_f, refl)
+under_cost n b (Some p) = (cost_under b.work p.normal p.offset, refl)
+under_cost n b None = (zero_f, refl)
 
 result : (m n : ℕ) (w : Work) → (got : Got) × (answer_of got ≡ answer (call_of m n w))
 unfolding transformed_frames_call called transformed_matches_call

@@ -20,7 +20,7 @@ use Rattle.std.specs.Float.Ieee.{of_bits, add, mul, sub, div, neg, lt, le}
 use Rattle.sums.specs.Sum.{◌⊕◌, zero_f}
 use Rattle.terms.specs.Terms.{cell_of, upto}
 use Rattle.validate.specs.Finite.{all_finite, finite_above}
-use Rattle.normal_blocks.specs.declared.Place.TheVariants.{At}
+use Rattle.std.specs.Prelude.{Some}
 use Rattle.normal_blocks.specs.Somewhere.{somewhere}
 use Rattle.normal_blocks.specs.Map.{place_of, word_at, lookup, bad_word, bad_word_at, bad_words, exceeds, exceeds_at, some_exceeds}
 use Rattle.normal_blocks.specs.Calls.{bad_target}
@@ -290,7 +290,7 @@ unfolding own_segments frame_segment transformed_frames_refusal bad_lengths bad_
 apart = all_apart_lem (own_segments 144 12) works_of refl
 
 -- and by words and shapes alone, two of them: the frames of `narrowed` have rows 10 and 11, and row 6, the match list rows 7 to 9
-apart_at : (q width o p i : ℕ) → At q ≡ At o → At 7 ≡ At p → Among o width i → Among p 3 i → (q + width ≤ 7) ⊎ (10 ≤ q) → ⊥
+apart_at : (q width o p i : ℕ) → Some q ≡ Some o → Some 7 ≡ Some p → Among o width i → Among p 3 i → (q + width ≤ 7) ⊎ (10 ≤ q) → ⊥
 apart_at q width o p i at at' a b h =
     let e : q ≡ o = cc in
     let f : 7 ≡ p = cc in

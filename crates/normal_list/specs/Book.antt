@@ -1,6 +1,6 @@
 -- THE BOOK, from document 01's "Many calls on one Hessian": it holds the cells, at the start with their first content, and is fed each call's own
 -- inputs alone, in the list's order. What a call owns comes from the same inputs. Definitions only.
-use Rattle.std.specs.Prelude.{ℕ, zero, suc, List, [], ◌∷◌, Float}
+use Rattle.std.specs.Prelude.{ℕ, zero, suc, List, [], ◌∷◌, Option, Some, None, Float}
 use Rattle.sums.specs.Sum.{zero_f}
 use Rattle.normal_blocks.specs.Map.{lookup}
 use Rattle.call_lists.specs.Lists.{Pairs}
@@ -9,8 +9,7 @@ use Rattle.call_lists.specs.Calls.{Answer, refusal, cost}
 use Rattle.call_lists.specs.Frames.{Frames, hessian_cell, gradient_cell}
 use Rattle.block_transforms.specs.Transform.{Beside, shape_at, layout_through}
 use Rattle.plane_fit.specs.Fit.{frame_count}
-use Rattle.plane_fit.specs.declared.axis.Fit.{Fit}
-use Rattle.plane_fit.specs.declared.axis.Fit.TheVariants.{Plane, NoPlane}
+use Rattle.plane.specs.declared.Plane.{Plane}
 use Rattle.plane_moments.specs.Accumulate.{FramesWork, fit_of, frames_of, cost_under}
 use Rattle.match_sums.specs.Groups.{list_cost}
 use Rattle.map_planes.specs.Accumulate as map_planes
@@ -59,9 +58,9 @@ abbrev pub entered : Float → Frames → Page
 entered x f = record { answer = cost x; hessian = hessian_cell f f.layout.count; gradient = gradient_cell f f.layout.count }
 
 -- "Accepted frames: the cost by the steps above; then, frame after frame, each term"; "No plane: cost 0, no cell changed"
-abbrev pub frames_page : Beside FramesWork → Fit → Page
-frames_page b (Plane u v w offset) = entered (cost_under b.work (u ∷ v ∷ w ∷ []) offset) (frames_of b (u ∷ v ∷ w ∷ []) offset)
-frames_page b NoPlane = unchanged (cost zero_f)
+abbrev pub frames_page : Beside FramesWork → Option Plane → Page
+frames_page b (Some p) = entered (cost_under b.work p.normal p.offset) (frames_of b p.normal p.offset)
+frames_page b None = unchanged (cost zero_f)
 
 -- "Accepted matches: likewise as one frame, summed by groups"
 abbrev pub accepted_page : Work → Page

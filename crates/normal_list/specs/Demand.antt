@@ -1,13 +1,11 @@
 -- DEMAND 3: what a call owns, and what any list of accumulating calls of both factors, with transforms and without, refused ones included, does to one Hessian and one gradient.
 -- Definitions only.
-use Rattle.std.specs.Prelude.{ℕ, suc, ◌+◌, ◌*◌, ◌<◌, ◌≤◌, ◌≡◌, List, length, get_or, Float}
+use Rattle.std.specs.Prelude.{ℕ, suc, ◌+◌, ◌*◌, ◌<◌, ◌≤◌, ◌≡◌, List, length, get_or, Some, None, Float}
 use Rattle.std.specs.Float.{nan}
 use Rattle.terms.specs.Terms.{cell_of}
 use Rattle.normal_blocks.specs.Map.{lookup}
-use Rattle.normal_blocks.specs.declared.Place.TheVariants.{At}
 use Rattle.call_lists.specs.Lists.{In}
 use Rattle.call_lists.specs.Calls.{refusal, Made, works, Chain}
-use Rattle.plane_fit.specs.declared.axis.Fit.TheVariants.{NoPlane}
 use Rattle.block_transforms.specs.Transform.{shape_at, width_at}
 use Rattle.plane_moments.specs.Accumulate.{transformed_frames_refusal, fit_of}
 use Rattle.normal_list.specs.Work.{Work, frames, matches, call_of, Got, answer_of}
@@ -24,7 +22,7 @@ pub record InFrame (count dof : ℕ) (map shapes : List ℕ) (i : ℕ) : Type 0 
   pub frame : ℕ
   pub exists : frame < count
   pub offset : ℕ
-  pub mapped : lookup map frame ≡ At offset
+  pub mapped : lookup map frame ≡ Some offset
   pub row : Among offset (width_at (shape_at shapes) dof frame) i
 
 -- and so is column j
@@ -32,7 +30,7 @@ pub record InOneFrame (count dof : ℕ) (map shapes : List ℕ) (i j : ℕ) : Ty
   pub frame : ℕ
   pub exists : frame < count
   pub offset : ℕ
-  pub mapped : lookup map frame ≡ At offset
+  pub mapped : lookup map frame ≡ Some offset
   pub row : Among offset (width_at (shape_at shapes) dof frame) i
   pub column : Among offset (width_at (shape_at shapes) dof frame) j
 
@@ -42,7 +40,7 @@ Exactly A B = (A → B) × (B → A)
 -- WHAT A HOST LOOKS AT, words and shapes: no row is among the rows of a mapped frame of one call and among those of a mapped frame of the other
 abbrev pub WordsApart : Work → Work → Type 0
 WordsApart v w =
-    (k l o p i : ℕ) → k < (layout_of v).count → l < (layout_of w).count → (layout_of v).place k ≡ At o → (layout_of w).place l ≡ At p
+    (k l o p i : ℕ) → k < (layout_of v).count → l < (layout_of w).count → (layout_of v).place k ≡ Some o → (layout_of w).place l ≡ Some p
     → Among o ((layout_of v).width k) i → Among p ((layout_of w).width l) i → ⊥
 
 -- ---- what a list of calls does
@@ -87,5 +85,5 @@ pub record Demand3 (h g : List Float) (es : List (Made Work Got)) (h' g' : List 
 
 -- an accepted call of frames without plane
 abbrev pub WithoutPlane : ℕ → ℕ → Work → Type 0
-WithoutPlane m n (frames b) = (transformed_frames_refusal m n b ≡ 0) × (fit_of b.work ≡ NoPlane)
+WithoutPlane m n (frames b) = (transformed_frames_refusal m n b ≡ 0) × (fit_of b.work ≡ None)
 WithoutPlane m n (matches b) = ⊥
