@@ -15,27 +15,45 @@ use frame_cost::Pull;
 use plane::Plane;
 use point_moments::scatter::{CENTRED, Centred};
 
+// What the frames are added by: their lists and the map, the plane, and the weight of its distances.
+#[derive(Clone, Copy)]
+struct Call<'a> {
+    frames: &'a [f64],
+    actions: &'a [f64],
+    map: &'a [u32],
+    plane: Plane,
+    weight: f64,
+}
+
 // One frame: its block and vector are added if it has a place.
 fn add_frame(
     h: &mut [f64],
     g: &mut [f64],
+    call: &Call,
     p: Option<usize>,
     dof: usize,
-    frames: &[f64],
-    actions: &[f64],
     k: usize,
-    normal: [f64; 3],
     pull: Pull,
-    weight: f64,
 )
-    requires { (dof ≤ 9) × (exceeds (length g.old) dof p ≡ false) × (length h.old ≡ length g.old * length g.old) × Held frames.now actions.now k }
-    ensures { FrameAdded (action_at actions.now k) (frame_at frames.now k) normal pull weight (length g.old) dof p h.old h.new g.old g.new }
+    requires { (dof ≤ 9) × (exceeds (length g.old) dof p ≡ false) × (length h.old ≡ length g.old * length g.old) × Held call.now.frames.now call.now.actions.now k }
+    ensures { FrameAdded (action_at call.now.actions.now k) (frame_at call.now.frames.now k) call.now.plane.normal pull call.now.weight (length g.old) dof p h.old h.new g.old g.new }
 {
     let n = g.len();
     let turn = pull.turn;
     if let Some(at) = p {
         frame_segment::add_at(
-            h, g, n, at, dof, frames, actions, k, normal, turn, pull.shift, weight,
+            h,
+            g,
+            n,
+            at,
+            dof,
+            call.frames,
+            call.actions,
+            k,
+            call.plane.normal,
+            turn,
+            pull.shift,
+            call.weight,
         );
     }
 }
@@ -71,22 +89,18 @@ fn pull_at(pulls: &[f64; 20], k: usize) -> Pull
 
 // The pulls at the frames of a batch from frame `from` on, number after number: number e of the batch's k-th frame stands at e * BATCH + k, so
 // that the loop's stores are neighbours and the compiler works out two frames at a time.
-fn fill_pulls(
-    frames: &[f64],
-    actions: &[f64],
-    from: usize,
-    size: usize,
-    plane: Plane,
-    weight: f64,
-    pulls: &mut [f64; 20],
-)
-    requires { (size ≤ BATCH) × (CENTRED * (from + size) ≤ length frames.now) × (action_size * (from + size) ≤ length actions.now) }
-    ensures { Pulled frames.now actions.now plane.normal plane.offset weight from size pulls.new }
+fn fill_pulls(call: &Call, from: usize, size: usize, pulls: &mut [f64; 20])
+    requires { (size ≤ BATCH) × (CENTRED * (from + size) ≤ length call.now.frames.now) × (action_size * (from + size) ≤ length call.now.actions.now) }
+    ensures { Pulled call.now.frames.now call.now.actions.now call.now.plane.normal call.now.plane.offset call.now.weight from size pulls.new }
 {
     for k in 0..size {
-        let f = Centred::from_list(plane_fit::whole_at(frames, CENTRED, from + k));
-        let x = plane_fit::whole_at(actions, ACTION, from + k);
-        put_pull(pulls, k, frame_cost::frame_pull(x, f, plane, weight));
+        let f = Centred::from_list(plane_fit::whole_at(call.frames, CENTRED, from + k));
+        let x = plane_fit::whole_at(call.actions, ACTION, from + k);
+        put_pull(
+            pulls,
+            k,
+            frame_cost::frame_pull(x, f, call.plane, call.weight),
+        );
     }
 }
 
@@ -94,19 +108,15 @@ fn fill_pulls(
 fn add_batch(
     h: &mut [f64],
     g: &mut [f64],
+    call: &Call,
     dof: usize,
-    frames: &[f64],
-    actions: &[f64],
-    map: &[u32],
     from: usize,
     size: usize,
-    normal: [f64; 3],
-    weight: f64,
     pulls: &[f64; 20],
     sum: f64,
 ) -> f64
-    requires { (size ≤ BATCH) × RunReady (length h.old) (length g.old) dof frames.now actions.now map.now (from + size) }
-    ensures { BatchAdded (length g.old) dof frames.now actions.now map.now normal weight pulls.now from size sum result h.old h.new g.old g.new }
+    requires { (size ≤ BATCH) × RunReady (length h.old) (length g.old) dof call.now.frames.now call.now.actions.now call.now.map.now (from + size) }
+    ensures { BatchAdded (length g.old) dof call.now.frames.now call.now.actions.now call.now.map.now call.now.plane.normal call.now.weight pulls.now from size sum result h.old h.new g.old g.new }
 {
     let mut s = sum;
     for k in 0..size {
@@ -114,14 +124,11 @@ fn add_batch(
         add_frame(
             h,
             g,
-            normal_blocks::lookup(map, from + k),
+            call,
+            normal_blocks::lookup(call.map, from + k),
             dof,
-            frames,
-            actions,
             from + k,
-            normal,
             p,
-            weight,
         );
         s = s + p.cost;
     }
@@ -132,37 +139,20 @@ fn add_batch(
 fn add_frames(
     h: &mut [f64],
     g: &mut [f64],
+    call: &Call,
     dof: usize,
-    frames: &[f64],
-    actions: &[f64],
-    map: &[u32],
-    plane: Plane,
-    weight: f64,
     count: usize,
     start: f64,
 ) -> f64
-    requires { RunReady (length h.old) (length g.old) dof frames.now actions.now map.now count }
-    ensures { RunAdded (length g.old) dof frames.now actions.now map.now plane.normal plane.offset weight count start result h.old h.new g.old g.new }
+    requires { RunReady (length h.old) (length g.old) dof call.now.frames.now call.now.actions.now call.now.map.now count }
+    ensures { RunAdded (length g.old) dof call.now.frames.now call.now.actions.now call.now.map.now call.now.plane.normal call.now.plane.offset call.now.weight count start result h.old h.new g.old g.new }
 {
     let mut sum = start;
     let mut p = [0.0; 20];
     for from in (0..count).step_by(BATCH) {
         let size = lists::batch_size(count, from, BATCH);
-        fill_pulls(frames, actions, from, size, plane, weight, &mut p);
-        sum = add_batch(
-            h,
-            g,
-            dof,
-            frames,
-            actions,
-            map,
-            from,
-            size,
-            plane.normal,
-            weight,
-            &p,
-            sum,
-        );
+        fill_pulls(call, from, size, &mut p);
+        sum = add_batch(h, g, call, dof, from, size, &p, sum);
     }
     sum
 }
@@ -192,26 +182,24 @@ fn add_parts(
 }
 
 // The same of frames of three columns, worked out side by side.
-fn add_threes(
-    h: &mut [f64],
-    g: &mut [f64],
-    frames: &[f64],
-    actions: &[f64],
-    map: &[u32],
-    plane: Plane,
-    weight: f64,
-    count: usize,
-    start: f64,
-) -> f64
-    requires { RunReady (length h.old) (length g.old) 3 frames.now actions.now map.now count }
-    ensures { RunAdded (length g.old) 3 frames.now actions.now map.now plane.normal plane.offset weight count start result h.old h.new g.old g.new }
+fn add_threes(h: &mut [f64], g: &mut [f64], call: &Call, count: usize, start: f64) -> f64
+    requires { RunReady (length h.old) (length g.old) 3 call.now.frames.now call.now.actions.now call.now.map.now count }
+    ensures { RunAdded (length g.old) 3 call.now.frames.now call.now.actions.now call.now.map.now call.now.plane.normal call.now.plane.offset call.now.weight count start result h.old h.new g.old g.new }
 {
     let mut s = start;
     let mut c = [0.0; 52];
     for from in (0..count).step_by(frame_parts::BATCH) {
         let size = lists::batch_size(count, from, frame_parts::BATCH);
-        frame_parts::fill_parts(frames, actions, from, size, plane, weight, &mut c);
-        s = add_parts(h, g, map, from, size, &c, s);
+        frame_parts::fill_parts(
+            call.frames,
+            call.actions,
+            from,
+            size,
+            call.plane,
+            call.weight,
+            &mut c,
+        );
+        s = add_parts(h, g, call.map, from, size, &c, s);
     }
     s
 }
@@ -238,10 +226,17 @@ pub fn add_run(
     requires { RunReady (length h.old) (length g.old) dof frames.now actions.now map.now count }
     ensures { RunAdded (length g.old) dof frames.now actions.now map.now plane.normal plane.offset weight count start result h.old h.new g.old g.new }
 {
+    let call = Call {
+        frames,
+        actions,
+        map,
+        plane,
+        weight,
+    };
     if dof == 3 && all_mapped(map, count) {
-        return add_threes(h, g, frames, actions, map, plane, weight, count, start);
+        return add_threes(h, g, &call, count, start);
     }
-    add_frames(h, g, dof, frames, actions, map, plane, weight, count, start)
+    add_frames(h, g, &call, dof, count, start)
 }
 
 // All frames of a call under a plane: each one's block and vector are added where the map says, and the cost, with the fixed set's, is the answer.

@@ -23,7 +23,7 @@ add_batch-sum-requires c =
 
 -- the frames of one batch more
 added : (c : After-add_batch-sum) → let l = c.loop-from in let a = c.args in
-    RunAdded (length a.g.now) a.dof a.frames.now a.actions.now a.map.now a.plane.normal a.plane.offset a.weight (l.from + c.batch_size-size.result) a.start c.add_batch-sum.result a.h.now c.add_batch-sum.new.h a.g.now c.add_batch-sum.new.g
+    RunAdded (length a.g.now) a.dof a.call.now.frames.now a.call.now.actions.now a.call.now.map.now a.call.now.plane.normal a.call.now.plane.offset a.call.now.weight (l.from + c.batch_size-size.result) a.start c.add_batch-sum.result a.h.now c.add_batch-sum.new.h a.g.now c.add_batch-sum.new.g
 added c =
     let l = c.loop-from in
     batch_added _ _ _ _ _ _ _ _ l.from _ _ _ _ l.sum _ _ l.h _ _ l.g _ l.invariant.2 c.fill_pulls.ensures c.add_batch-sum.ensures l.invariant.3

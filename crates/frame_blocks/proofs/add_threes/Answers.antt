@@ -24,7 +24,7 @@ add_parts-s-requires c =
 
 -- the frames of one batch more
 added : (c : After-add_parts-s) → let l = c.loop-from in let a = c.args in
-    RunAdded (length a.g.now) 3 a.frames.now a.actions.now a.map.now a.plane.normal a.plane.offset a.weight (l.from + c.batch_size-size.result) a.start c.add_parts-s.result a.h.now c.add_parts-s.new.h a.g.now c.add_parts-s.new.g
+    RunAdded (length a.g.now) 3 a.call.now.frames.now a.call.now.actions.now a.call.now.map.now a.call.now.plane.normal a.call.now.plane.offset a.call.now.weight (l.from + c.batch_size-size.result) a.start c.add_parts-s.result a.h.now c.add_parts-s.new.h a.g.now c.add_parts-s.new.g
 added c =
     let l = c.loop-from in
     parts_added _ _ _ l.from _ _ _ _ _ _ _ _ l.s _ _ l.h _ _ l.g _ l.invariant.2 c.fill_parts.ensures c.add_parts-s.ensures l.invariant.4

@@ -7,7 +7,7 @@ use Rattle.frame_blocks.proofs.add_threes.Given as goal
 
 abbrev pub invariant-loop-from : goal.invariant-loop-from
 invariant-loop-from l =
-    (l.from ≤ l.count) × (length l.h ≡ length l.initial.h) × (length l.g ≡ length l.initial.g) × (length l.c ≡ PARTS) × RunAdded (length l.initial.g) 3 l.frames l.actions l.map l.plane.normal l.plane.offset l.weight l.from l.start l.s l.initial.h l.h l.initial.g l.g
+    (l.from ≤ l.count) × (length l.h ≡ length l.initial.h) × (length l.g ≡ length l.initial.g) × (length l.c ≡ PARTS) × RunAdded (length l.initial.g) 3 l.call.frames.now l.call.actions.now l.call.map.now l.call.plane.normal l.call.plane.offset l.call.weight l.from l.start l.s l.initial.h l.h l.initial.g l.g
 
 abbrev pub decreases-loop-from : goal.decreases-loop-from
 decreases-loop-from l = l.count - l.from

@@ -21,7 +21,7 @@ unfolding pull_at
 loop-k-preserved c =
     let l = c.loop-k in
     let a = c.args in
-    let is : c.frame_pull.result ≡ pull_at a.frames.now a.actions.now a.plane.normal a.plane.offset a.weight (a.from + l.k)
+    let is : c.frame_pull.result ≡ pull_at a.call.now.frames.now a.call.now.actions.now a.call.now.plane.normal a.call.now.plane.offset a.call.now.weight (a.from + l.k)
     = rw (c.frame_pull.ensures, c.whole_at-x.ensures, c.from_list-f.ensures, c.whole_at.ensures) in
     pulled_more _ _ _ _ _ _ (omega arith) is c.put_pull.ensures l.invariant
 
