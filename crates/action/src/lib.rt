@@ -27,5 +27,5 @@ pub fn carried(x: &[f64], p: [f64; 3]) -> [f64; 3]
     ensures { result ≡ carried x.now p }
 {
     let turned = linear::mat_vec(matrix(x), p);
-    linear::plus3(turned, shift(x))
+    linear::plus(turned, shift(x))
 }

@@ -58,7 +58,7 @@ pub fn centroid(points: &[f64], fixed: &[f64], sums: [f64; 3]) -> [f64; 3]
     ensures { result ≡ centroid (points.now ++ fixed.now) }
 {
     let n = counts::number(points.len() / 3 + fixed.len() / 3);
-    linear::divided3(sums, n)
+    linear::divided(sums, n)
 }
 
 // The products of the differences to q, added to sums that are there already: the entries (0,0), (0,1), (0,2), (1,1), (1,2) and (2,2).

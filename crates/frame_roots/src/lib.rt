@@ -27,7 +27,7 @@ pub fn root_row(d: &[u64], k: usize) -> [f64; 3]
     ensures { result ≡ root_row d.now k }
 {
     let s = square_root::sqrt(at_least_zero(decomposition::value(d, k)));
-    linear::scaled3(decomposition::vector(d, k), s)
+    linear::scaled(decomposition::vector(d, k), s)
 }
 
 // A root of a set's scatter by rows, as its decomposition gives it, and the root of its count.
@@ -45,9 +45,9 @@ impl Root {
         requires { length d.now ≡ DECOMPOSITION }
         ensures { result ≡ root_with d.now roots }
     {
-        let first = linear::scaled3(decomposition::vector(d, 0), roots[0]);
-        let second = linear::scaled3(decomposition::vector(d, 1), roots[1]);
-        let third = linear::scaled3(decomposition::vector(d, 2), roots[2]);
+        let first = linear::scaled(decomposition::vector(d, 0), roots[0]);
+        let second = linear::scaled(decomposition::vector(d, 1), roots[1]);
+        let third = linear::scaled(decomposition::vector(d, 2), roots[2]);
         Root {
             first,
             second,

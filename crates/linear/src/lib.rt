@@ -15,9 +15,7 @@ pub fn dot3(a: [f64; 3], b: [f64; 3]) -> f64
 pub fn mat_vec(a: [f64; 9], x: [f64; 3]) -> [f64; 3]
     ensures { result ≡ product 3 3 1 a x }
 {
-    let x0 = x[0];
-    let x1 = x[1];
-    let x2 = x[2];
+    let [x0, x1, x2] = x;
     [
         a[0] * x0 + a[3] * x1 + a[6] * x2,
         a[1] * x0 + a[4] * x1 + a[7] * x2,
@@ -29,9 +27,7 @@ pub fn mat_vec(a: [f64; 9], x: [f64; 3]) -> [f64; 3]
 pub fn vec_mat(v: [f64; 3], a: [f64; 9]) -> [f64; 3]
     ensures { result ≡ product 1 3 3 v a }
 {
-    let v0 = v[0];
-    let v1 = v[1];
-    let v2 = v[2];
+    let [v0, v1, v2] = v;
     [
         v0 * a[0] + v1 * a[1] + v2 * a[2],
         v0 * a[3] + v1 * a[4] + v2 * a[5],
@@ -47,34 +43,47 @@ pub fn transposed(a: [f64; 9]) -> [f64; 9]
 }
 
 // a + b
-pub fn plus3(a: [f64; 3], b: [f64; 3]) -> [f64; 3]
-    ensures { result ≡ plus 3 a b }
+#[inline(always)]
+pub fn plus<const N: usize>(a: [f64; N], b: [f64; N]) -> [f64; N]
+    ensures { result ≡ plus N a.entry b.entry }
 {
-    [a[0] + b[0], a[1] + b[1], a[2] + b[2]]
+    let mut sum = [0.0; N];
+    for k in 0..N {
+        sum[k] = a[k] + b[k];
+    }
+    sum
+}
+
+// v s
+#[inline(always)]
+pub fn scaled<const N: usize>(v: [f64; N], s: f64) -> [f64; N]
+    ensures { result ≡ scaled N v.entry s }
+{
+    let mut product = [0.0; N];
+    for k in 0..N {
+        product[k] = v[k] * s;
+    }
+    product
+}
+
+// v / s
+#[inline(always)]
+pub fn divided<const N: usize>(v: [f64; N], s: f64) -> [f64; N]
+    ensures { result ≡ divided N v.entry s }
+{
+    let mut quotient = [0.0; N];
+    for k in 0..N {
+        quotient[k] = v[k] / s;
+    }
+    quotient
 }
 
 // a b. Each number is read once: reads cost the proof more than sums do.
 pub fn mat_mat(a: [f64; 9], b: [f64; 9]) -> [f64; 9]
     ensures { result ≡ product 3 3 3 a b }
 {
-    let a0 = a[0];
-    let a1 = a[1];
-    let a2 = a[2];
-    let a3 = a[3];
-    let a4 = a[4];
-    let a5 = a[5];
-    let a6 = a[6];
-    let a7 = a[7];
-    let a8 = a[8];
-    let b0 = b[0];
-    let b1 = b[1];
-    let b2 = b[2];
-    let b3 = b[3];
-    let b4 = b[4];
-    let b5 = b[5];
-    let b6 = b[6];
-    let b7 = b[7];
-    let b8 = b[8];
+    let [a0, a1, a2, a3, a4, a5, a6, a7, a8] = a;
+    let [b0, b1, b2, b3, b4, b5, b6, b7, b8] = b;
     [
         a0 * b0 + a3 * b1 + a6 * b2,
         a1 * b0 + a4 * b1 + a7 * b2,
@@ -92,23 +101,7 @@ pub fn mat_mat(a: [f64; 9], b: [f64; 9]) -> [f64; 9]
 pub fn outer_scaled(v: [f64; 3], w: [f64; 3], s: f64) -> [f64; 9]
     ensures { result ≡ scaled 9 (outer 3 3 v w) s }
 {
-    let v0 = v[0];
-    let v1 = v[1];
-    let v2 = v[2];
-    let w0 = w[0];
-    let w1 = w[1];
-    let w2 = w[2];
-    [
-        v0 * w0 * s,
-        v1 * w0 * s,
-        v2 * w0 * s,
-        v0 * w1 * s,
-        v1 * w1 * s,
-        v2 * w1 * s,
-        v0 * w2 * s,
-        v1 * w2 * s,
-        v2 * w2 * s,
-    ]
+    scaled(outer3(v, w), s)
 }
 
 // (a s) aᵀ, the left product first
@@ -118,33 +111,12 @@ pub fn congruent(a: [f64; 9], s: [f64; 9]) -> [f64; 9]
     mat_mat(mat_mat(a, s), transposed(a))
 }
 
-// a + b, of two matrices
-pub fn plus9(a: [f64; 9], b: [f64; 9]) -> [f64; 9]
-    ensures { result ≡ plus 9 a b }
-{
-    [
-        a[0] + b[0],
-        a[1] + b[1],
-        a[2] + b[2],
-        a[3] + b[3],
-        a[4] + b[4],
-        a[5] + b[5],
-        a[6] + b[6],
-        a[7] + b[7],
-        a[8] + b[8],
-    ]
-}
-
 // v wᵀ
 pub fn outer3(v: [f64; 3], w: [f64; 3]) -> [f64; 9]
     ensures { result ≡ outer 3 3 v w }
 {
-    let v0 = v[0];
-    let v1 = v[1];
-    let v2 = v[2];
-    let w0 = w[0];
-    let w1 = w[1];
-    let w2 = w[2];
+    let [v0, v1, v2] = v;
+    let [w0, w1, w2] = w;
     [
         v0 * w0,
         v1 * w0,
@@ -156,18 +128,4 @@ pub fn outer3(v: [f64; 3], w: [f64; 3]) -> [f64; 9]
         v1 * w2,
         v2 * w2,
     ]
-}
-
-// v s
-pub fn scaled3(v: [f64; 3], s: f64) -> [f64; 3]
-    ensures { result ≡ scaled 3 v s }
-{
-    [v[0] * s, v[1] * s, v[2] * s]
-}
-
-// v / s
-pub fn divided3(v: [f64; 3], s: f64) -> [f64; 3]
-    ensures { result ≡ divided 3 v s }
-{
-    [v[0] / s, v[1] / s, v[2] / s]
 }

@@ -61,7 +61,7 @@ fn write_first<const W: usize>(
     for k in 0..rows {
         let m = Match::read(list, k * MATCH);
         let info = m.information();
-        let w = linear::plus3(linear::mat_vec(a, m.point), b);
+        let w = linear::plus(linear::mat_vec(a, m.point), b);
         residual[k] = (linear::dot3(m.plane.normal, w) + m.plane.offset) * info;
         put_entries(t, m, info, k, rows, 0, 3, out);
         put_entries(t, m, info, k, rows, 3, W - 3, out);

@@ -2,7 +2,6 @@
 #![tactic(auto)]
 
 ghost use Rattle.std.specs.Prelude.{◌≡◌};
-ghost use Rattle.sums.specs.Sum.{scaled};
 ghost use Rattle.moment_matrices.specs.Matrices.{spread_of, symmetric_of, scatter_of, moved_outer};
 
 pub fn spread(o: [f64; 9], u: [f64; 3], n: f64) -> [f64; 9]
@@ -25,23 +24,7 @@ pub fn spread(o: [f64; 9], u: [f64; 3], n: f64) -> [f64; 9]
 pub fn symmetric(s: [f64; 9]) -> [f64; 9]
     ensures { result ≡ symmetric_of s }
 {
-    scaled9(linear::plus9(s, linear::transposed(s)), 0.5)
-}
-
-pub fn scaled9(s: [f64; 9], n: f64) -> [f64; 9]
-    ensures { result ≡ scaled 9 s n }
-{
-    [
-        s[0] * n,
-        s[1] * n,
-        s[2] * n,
-        s[3] * n,
-        s[4] * n,
-        s[5] * n,
-        s[6] * n,
-        s[7] * n,
-        s[8] * n,
-    ]
+    linear::scaled(linear::plus(s, linear::transposed(s)), 0.5)
 }
 
 // The scatter from outer products, mean and count.
@@ -56,7 +39,7 @@ pub fn scatter_of(o: [f64; 9], u: [f64; 3], n: f64) -> [f64; 9]
 pub fn moved_outer(o: [f64; 9], a: [f64; 9], t: [f64; 3], b: [f64; 3], n: f64) -> [f64; 9]
     ensures { result ≡ moved_outer o a t b n }
 {
-    let turned = linear::plus9(linear::congruent(a, o), linear::outer3(t, b));
-    let both = linear::plus9(turned, linear::outer3(b, t));
-    linear::plus9(both, linear::outer_scaled(b, b, n))
+    let turned = linear::plus(linear::congruent(a, o), linear::outer3(t, b));
+    let both = linear::plus(turned, linear::outer3(b, t));
+    linear::plus(both, linear::outer_scaled(b, b, n))
 }

@@ -32,7 +32,7 @@ impl Plane {
             return Err(Refusal::DegenerateNormal);
         }
         Ok(Plane {
-            normal: linear::divided3(normal, norm),
+            normal: linear::divided(normal, norm),
             offset: offset / norm,
         })
     }

@@ -85,7 +85,7 @@ impl Weighted {
     {
         let n = self.total;
         let u = self.sum;
-        linear::divided3(u, n)
+        linear::divided(u, n)
     }
 }
 
@@ -114,7 +114,7 @@ fn spread(s: [f64; 9], w: [f64; 3], n: f64, mean: [f64; 3]) -> [f64; 9]
     ensures { result ≡ grid 3 3 (spread s w n mean) }
 {
     let o = difference(w, mean);
-    linear::plus9(s, linear::outer_scaled(o, o, n))
+    linear::plus(s, linear::outer_scaled(o, o, n))
 }
 
 // A.S.Aᵀ, as `linear` has it: a copy for this loop alone, which the compiler takes into the loop.
@@ -145,7 +145,7 @@ impl Scatter {
         ensures { result.entries ≡ plus 9 self.entries part }
     {
         let e = self.entries;
-        let entries = linear::plus9(e, part);
+        let entries = linear::plus(e, part);
         Scatter { entries }
     }
 }

@@ -79,8 +79,8 @@ impl PointMoments {
     {
         let s = self.sum;
         let o = self.outer;
-        let sum = linear::plus3(s, p);
-        let outer = linear::plus9(o, linear::outer3(p, p));
+        let sum = linear::plus(s, p);
+        let outer = linear::plus(o, linear::outer3(p, p));
         PointMoments {
             count: self.count + 1.0,
             sum,
@@ -95,8 +95,8 @@ impl PointMoments {
         let o = self.outer;
         let t = other.sum;
         let q = other.outer;
-        let sum = linear::plus3(s, t);
-        let outer = linear::plus9(o, q);
+        let sum = linear::plus(s, t);
+        let outer = linear::plus(o, q);
         PointMoments {
             count: self.count + other.count,
             sum,
@@ -122,7 +122,7 @@ impl PointMoments {
         let o = self.outer;
         let count = self.count;
         let t = linear::mat_vec(a, s);
-        let sum = linear::plus3(t, linear::scaled3(b, count));
+        let sum = linear::plus(t, linear::scaled(b, count));
         let outer = moment_matrices::moved_outer(o, a, t, b, count);
         PointMoments { count, sum, outer }
     }

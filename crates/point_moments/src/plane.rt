@@ -31,7 +31,7 @@ impl PointMoments {
         }
         let s = self.sum;
         let normal = d.normal;
-        let offset = -linear::dot3(normal, linear::divided3(s, count));
+        let offset = -linear::dot3(normal, linear::divided(s, count));
         Some(MomentsPlane {
             normal,
             offset,

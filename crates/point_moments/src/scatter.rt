@@ -33,7 +33,7 @@ impl PointMoments {
         }
         let sum = self.sum;
         let o = self.outer;
-        let mean = linear::divided3(sum, n);
+        let mean = linear::divided(sum, n);
         let scatter = moment_matrices::scatter_of(o, mean, n);
         Some(MeanAndScatter { mean, scatter })
     }
@@ -47,8 +47,8 @@ impl PointMoments {
         let n = self.count;
         let s = self.sum;
         let o = self.outer;
-        let mean = linear::divided3(s, n);
-        let scatter = moment_matrices::scaled9(moment_matrices::scatter_of(o, mean, n), n);
+        let mean = linear::divided(s, n);
+        let scatter = linear::scaled(moment_matrices::scatter_of(o, mean, n), n);
         Centred {
             count: n,
             mean,

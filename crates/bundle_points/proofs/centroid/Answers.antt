@@ -5,4 +5,4 @@ use Rattle.bundle_points.proofs.centroid.Goals as goal
 
 pub returns : goal.returns
 returns c =
-    c.divided3.ensures ∙ centroid_by c.args.points.now c.args.fixed.now c.requires.0.whole c.requires.0.fixed_whole c.args.sums _ c.requires.1 c.number-n.ensures
+    c.divided.ensures ∙ centroid_by c.args.points.now c.args.fixed.now c.requires.0.whole c.requires.0.fixed_whole c.args.sums _ c.requires.1 c.number-n.ensures

@@ -6,11 +6,11 @@ pub returns : goal.returns
 unfolding moved_outer
 returns c =
     rw (
-      c.plus9.ensures,
+      c.plus.ensures,
       c.outer_scaled.ensures,
-      c.plus9-both.ensures,
+      c.plus-both.ensures,
       c.outer3-2.ensures,
-      c.plus9-turned.ensures,
+      c.plus-turned.ensures,
       c.outer3.ensures,
       c.congruent.ensures,
     )

@@ -2,4 +2,4 @@
 use Rattle.moment_matrices.proofs.symmetric.Goals as goal
 
 pub returns : goal.returns
-returns c = rw (c.scaled9.ensures, c.plus9.ensures, c.transposed.ensures)
+returns c = rw (c.scaled.ensures, c.plus.ensures, c.transposed.ensures)

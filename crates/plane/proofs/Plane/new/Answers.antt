@@ -15,4 +15,4 @@ pub returns : goal.returns
 unfolding plane_new
 returns c =
     let yes : finite_above least_norm c.sqrt-norm.result ≡ true = sym c.is_above.ensures ∙ c.if-not-is_above.false in
-    rw (c.divided3.ensures, ← c.dot3.ensures, ← c.sqrt-norm.ensures, yes)
+    rw (c.divided.ensures, ← c.dot3.ensures, ← c.sqrt-norm.ensures, yes)

@@ -14,4 +14,4 @@ pub returns : goal.returns
 unfolding mean_and_scatter
 returns c =
     let one : has_mean c.args.self ≡ true = ap not c.if-n.false in
-    rw (c.scatter_of-scatter.ensures, c.divided3-mean.ensures, one)
+    rw (c.scatter_of-scatter.ensures, c.divided-mean.ensures, one)

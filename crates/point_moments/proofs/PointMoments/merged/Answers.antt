@@ -4,4 +4,4 @@ use Rattle.point_moments.proofs.PointMoments.merged.Goals as goal
 
 pub returns : goal.returns
 unfolding merged
-returns c = rw (c.plus9-outer.ensures, c.plus3-sum.ensures)
+returns c = rw (c.plus-outer.ensures, c.plus-sum.ensures)
