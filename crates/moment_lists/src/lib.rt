@@ -45,10 +45,7 @@ pub fn push(moments: &mut [f64], point: &[f64]) -> Result<(), Refusal>
 pub fn merge(moments: &mut [f64], other: &[f64]) -> Result<(), Refusal>
     ensures { Merges moments.old other.now (number result) moments.new }
 {
-    if moments.len() != MOMENTS {
-        return Err(Refusal::WrongLength);
-    }
-    if other.len() != MOMENTS {
+    if moments.len() != MOMENTS || other.len() != MOMENTS {
         return Err(Refusal::WrongLength);
     }
     let m = PointMoments::from_list(moments);
@@ -63,16 +60,7 @@ pub fn merge(moments: &mut [f64], other: &[f64]) -> Result<(), Refusal>
 pub fn transformed(moments: &[f64], a: &[f64], b: &[f64], out: &mut [f64]) -> Result<(), Refusal>
     ensures { Transforms moments.now a.now b.now out.old (number result) out.new }
 {
-    if moments.len() != MOMENTS {
-        return Err(Refusal::WrongLength);
-    }
-    if a.len() != 9 {
-        return Err(Refusal::WrongLength);
-    }
-    if b.len() != 3 {
-        return Err(Refusal::WrongLength);
-    }
-    if out.len() != MOMENTS {
+    if moments.len() != MOMENTS || a.len() != 9 || b.len() != 3 || out.len() != MOMENTS {
         return Err(Refusal::WrongLength);
     }
     let m = PointMoments::from_list(moments).transformed(lists::nine(a, 0), lists::three(b, 0));
@@ -80,15 +68,12 @@ pub fn transformed(moments: &[f64], a: &[f64], b: &[f64], out: &mut [f64]) -> Re
     Ok(())
 }
 
-// Mean and scatter; where there is none, `found` is 0 and `out` as it was.
+// Mean and scatter; where there is none, `found` is 0 and `out` as it was. Both are lent by the C interface, so the answer is no Option.
 #[tactic(auto, unfolding(crate::specs::Calls::mean_refusal, crate::specs::Calls::mean_answer))]
 pub fn mean_and_scatter(moments: &[f64], out: &mut [f64], found: &mut u32) -> Result<(), Refusal>
     ensures { FindsMean moments.now out.old found.old (number result) out.new found.new }
 {
-    if moments.len() != MOMENTS {
-        return Err(Refusal::WrongLength);
-    }
-    if out.len() != 12 {
+    if moments.len() != MOMENTS || out.len() != 12 {
         return Err(Refusal::WrongLength);
     }
     match PointMoments::from_list(moments).mean_and_scatter() {
@@ -105,7 +90,7 @@ pub fn mean_and_scatter(moments: &[f64], out: &mut [f64], found: &mut u32) -> Re
     Ok(())
 }
 
-// Normal, offset and the eigenvalues in rising order; where there is no plane, `found` is 0 and `out` as it was.
+// Normal, offset and the eigenvalues in rising order; where there is no plane, `found` is 0 and `out` as it was. Both are lent by the C interface, as above.
 #[tactic(auto, unfolding(crate::specs::Calls::plane_refusal, crate::specs::Calls::plane_answer))]
 pub fn plane(
     moments: &[f64],
@@ -115,13 +100,7 @@ pub fn plane(
 ) -> Result<(), Refusal>
     ensures { FindsPlane moments.now decomposition.now out.old found.old (number result) out.new found.new }
 {
-    if moments.len() != MOMENTS {
-        return Err(Refusal::WrongLength);
-    }
-    if decomposition.len() != DECOMPOSITION {
-        return Err(Refusal::WrongLength);
-    }
-    if out.len() != 7 {
+    if moments.len() != MOMENTS || decomposition.len() != DECOMPOSITION || out.len() != 7 {
         return Err(Refusal::WrongLength);
     }
     match PointMoments::from_list(moments).plane(decomposition) {

@@ -43,7 +43,8 @@ impl PointMoments {
         Self::EMPTY
     }
 
-    // Between a record and a list of MOMENTS numbers: only these two know the places.
+    // Between a record and a list of MOMENTS numbers: only these two know the places. No `From`, which can require nothing: a caller has a range of a longer list and
+    // has proved its length, which a `TryFrom` would test again.
     pub fn from_list(l: &[f64]) -> PointMoments
         requires { length l.now ≡ MOMENTS }
         ensures { result ≡ moments_of l.now }

@@ -14,7 +14,8 @@ pub struct MeanAndScatter {
 // How many numbers a centred frame is.
 pub const CENTRED: usize = 13;
 
-// A set centred on its mean: the scatter is here times the count.
+// A set centred on its mean: the scatter is here times the count. A type of its own, though its numbers lie as those of `PointMoments` do: sums are not to be taken
+// for a mean.
 #[derive(Clone, Copy)]
 pub struct Centred {
     pub count: f64,
@@ -58,7 +59,7 @@ impl PointMoments {
 }
 
 impl Centred {
-    // Between a frame and a list of CENTRED numbers: only these know the places.
+    // Between a frame and a list of CENTRED numbers, as of `PointMoments`: only these know the places.
     pub fn from_list(l: &[f64]) -> Centred
         requires { length l.now ≡ CENTRED }
         ensures { result ≡ centred_of l.now }
