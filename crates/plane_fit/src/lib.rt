@@ -269,10 +269,7 @@ pub fn bad_records(list: &[f64], size: usize, most: usize) -> bool
     requires { 0 < size }
     ensures { result ≡ bad_records size most list.now }
 {
-    if list.len() % size != 0 {
-        return true;
-    }
-    list.len() / size > most
+    list.len() % size != 0 || list.len() / size > most
 }
 
 pub fn bad_frames(frames: &[f64]) -> bool
@@ -293,10 +290,7 @@ pub fn bad_count(list: &[f64], size: usize, others: &[f64], other: usize) -> boo
     requires { (0 < size) × (0 < other) }
     ensures { result ≡ bad_count size list.now other others.now }
 {
-    if others.len() % other != 0 {
-        return true;
-    }
-    others.len() / other != list.len() / size
+    others.len() % other != 0 || others.len() / other != list.len() / size
 }
 
 // 8: the actions are not one for each frame.

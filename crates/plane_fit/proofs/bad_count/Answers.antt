@@ -24,8 +24,8 @@ by_quotient l s n some h = go (eqb (l / s) n) refl
 
 pub returns-then-others-other-ne0 : goal.returns-then-others-other-ne0
 unfolding bad_count
-returns-then-others-other-ne0 c = rw (not_whole _ _ _ c.if-others-other-ne0.true)
+returns-then-others-other-ne0 c = rw (ne_eqb _ _ c.if-others-other-ne0.true, not_whole _ _ _ c.if-others-other-ne0.true)
 
-pub returns : goal.returns
+pub returns-else-others-other-ne0 : goal.returns-else-others-other-ne0
 unfolding bad_count
-returns c = ap not (by_quotient _ _ _ c.requires.1 c.if-others-other-ne0.false)
+returns-else-others-other-ne0 c = ap not (by_quotient _ _ _ c.requires.1 c.if-others-other-ne0.false)

@@ -7,6 +7,6 @@ pub returns-then-list-size-ne0 : goal.returns-then-list-size-ne0
 unfolding bad_records
 returns-then-list-size-ne0 c = rw (ne_eqb _ _ c.if-list-size-ne0.true)
 
-pub returns : goal.returns
+pub returns-else-list-size-ne0 : goal.returns-else-list-size-ne0
 unfolding bad_records
-returns c = rw (eq-eqb _ _ c.if-list-size-ne0.false)
+returns-else-list-size-ne0 c = rw (eq-eqb _ _ c.if-list-size-ne0.false)
