@@ -2,14 +2,13 @@
 use Prim.Native.Nat.{◌+◌, ◌*◌, ◌≤◌}
 use mathlib.Core.Path.{refl, ◌∙◌}
 use native.Mathlib.Omega.{arith}
-use borrow.Author.Rules.{rules}
 use Rattle.terms.proofs.Laws.{upto-none, block_more, block_all, column-before}
 use Rattle.normal_blocks.specs.Target.{entry_of}
 use Rattle.normal_blocks.proofs.target.add_block.Goals as goal
 use Rattle.normal_blocks.proofs.target.add_block.Goals.{In-loop-c}
 
 pub loop-c-init : goal.loop-c-init
-loop-c-init c = (search rules, refl, upto-none _ _)
+loop-c-init c = (refl, upto-none _ _)
 
 -- the column ends within the Hessian, and its numbers within the block
 inside : (c : In-loop-c) → let s = c.args in (s.offset + c.loop-c.c) * s.n + s.n ≤ s.n * s.n
@@ -34,7 +33,7 @@ pub loop-c-preserved : goal.loop-c-preserved
 unfolding entry_of
 loop-c-preserved c =
     let at = c.loop-c in
-    (search rules, c.add_run.auto.h ∙ at.invariant.1, block_more _ at.h _ _ _ _ _ at.c at.invariant.2 c.add_run.ensures)
+    (c.add_run.auto.h ∙ at.invariant.0, block_more _ at.h _ _ _ _ _ at.c at.invariant.1 c.add_run.ensures)
 
 pub returns : goal.returns
-returns c = block_all _ _ _ _ _ c.loop-c.c _ (omega arith) c.loop-c.invariant.2
+returns c = block_all _ _ _ _ _ c.loop-c.c _ (omega arith) c.loop-c.invariant.1

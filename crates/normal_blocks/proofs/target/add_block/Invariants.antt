@@ -1,4 +1,3 @@
-use Prim.Native.Nat.{◌-◌, ◌≤◌}
 use mathlib.Core.Path.{◌≡◌}
 use lib.ListN.{length}
 use Rattle.terms.specs.Terms.{add_all, upto, column_at}
@@ -7,7 +6,4 @@ use Rattle.normal_blocks.proofs.target.add_block.Given as goal
 
 abbrev pub invariant-loop-c : goal.invariant-loop-c
 invariant-loop-c l =
-    (l.c ≤ l.width) × (length l.h ≡ length l.initial.h) × (l.h ≡ add_all l.initial.h (upto l.c (column_at l.n l.offset l.width (entry_of l.stride l.b))))
-
-abbrev pub decreases-loop-c : goal.decreases-loop-c
-decreases-loop-c l = l.width - l.c
+    (length l.h ≡ length l.initial.h) × (l.h ≡ add_all l.initial.h (upto l.c (column_at l.n l.offset l.width (entry_of l.stride l.b))))

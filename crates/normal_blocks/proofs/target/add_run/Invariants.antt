@@ -1,4 +1,3 @@
-use Prim.Native.Nat.{◌≤◌, ◌-◌}
 use mathlib.Core.Path.{◌≡◌}
 use lib.ListN.{length}
 use Rattle.terms.specs.Terms.{add_all, upto, cell_at}
@@ -7,7 +6,4 @@ use Rattle.normal_blocks.proofs.target.add_run.Given as goal
 
 abbrev pub invariant-loop-r : goal.invariant-loop-r
 invariant-loop-r l =
-    (l.r ≤ l.width) × (length l.h ≡ length l.initial.h) × (l.h ≡ add_all l.initial.h (upto l.r (cell_at l.base (number_from l.v l.from))))
-
-abbrev pub decreases-loop-r : goal.decreases-loop-r
-decreases-loop-r l = l.width - l.r
+    (length l.h ≡ length l.initial.h) × (l.h ≡ add_all l.initial.h (upto l.r (cell_at l.base (number_from l.v l.from))))
