@@ -7,7 +7,7 @@ ghost use Rattle.plane_fit.specs.Axis.{smallest_axis};
 use decomposition::MIN_EIGEN_GAP;
 use plane::Plane;
 
-// The larger of |x| and 1; 1 for a NaN.
+// The larger of |x| and 1; 1 for a NaN. Written out, since an f64 has neither `abs` nor `max` here.
 fn at_least_one(x: f64) -> f64
     ensures { result ≡ at_least_one x }
 {
