@@ -17,13 +17,11 @@ fn add_points(list: &[f64], from: [f64; 3]) -> [f64; 3]
     let mut x = from[0];
     let mut y = from[1];
     let mut z = from[2];
-    let mut k = 0;
-    while k < list.len() / 3 {
+    for k in 0..list.len() / 3 {
         let at = k * 3;
         x = x + list[at];
         y = y + list[at + 1];
         z = z + list[at + 2];
-        k += 1;
     }
     [x, y, z]
 }
@@ -74,8 +72,7 @@ fn add_spread(list: &[f64], q: [f64; 3], from: [f64; 6]) -> [f64; 6]
     let mut yy = from[3];
     let mut yz = from[4];
     let mut zz = from[5];
-    let mut k = 0;
-    while k < list.len() / 3 {
+    for k in 0..list.len() / 3 {
         let at = k * 3;
         let x = list[at] - q0;
         let y = list[at + 1] - q1;
@@ -86,7 +83,6 @@ fn add_spread(list: &[f64], q: [f64; 3], from: [f64; 6]) -> [f64; 6]
         yy = yy + y * y;
         yz = yz + y * z;
         zz = zz + z * z;
-        k += 1;
     }
     [xx, xy, xz, yy, yz, zz]
 }

@@ -37,14 +37,12 @@ fn put_residuals(
     let n0 = n[0];
     let n1 = n[1];
     let n2 = n[2];
-    let mut k = 0;
-    while k < list.len() / 3 {
+    for k in 0..list.len() / 3 {
         let at = k * 3;
         let x = list[at] - q0;
         let y = list[at + 1] - q1;
         let z = list[at + 2] - q2;
         residual[from + k] = info * (n0 * x + n1 * y + n2 * z);
-        k += 1;
     }
 }
 
@@ -64,208 +62,142 @@ pub fn write_residuals(
     put_residuals(fixed, q, n, info, points.len() / 3, residual);
 }
 
-// Column c of the points of rows k and k + 1. Both numbers are worked out before one is stored: the two stores, which are neighbours, then become one.
-fn put_pair(
-    state: &[f64],
+// The state columns of the site points, `dof` for each, and what a row makes of them: the plane's normal, and 1 / sigma.
+#[derive(Clone, Copy)]
+struct StateColumns<'a> {
+    state: &'a [f64],
     dof: usize,
-    c: usize,
     n: [f64; 3],
     info: f64,
-    k: usize,
-    rows: usize,
-    block: &mut [f64],
-)
-    requires { (c < dof) × Room dof rows k 2 (length state.now) (length block.old) }
-    ensures { Put rows dof k 2 c 1 (state_cell dof state.now n info) block.old block.new }
+}
+
+impl StateColumns<'_> {
+    // Column c of the point of row k.
+    #[inline(always)]
+    #[tactic(auto, unfolding(crate::specs::Steps::state_cell))]
+    fn cell(self, k: usize, c: usize) -> f64
+        requires { (k * self.dof + c) * 3 + 3 ≤ length self.state.now }
+        ensures { result ≡ state_cell self.entry.dof self.entry.state.now self.entry.n self.entry.info k c }
+    {
+        map_plane::state_column(self.info, self.n, self.state, k * self.dof + c)
+    }
+}
+
+// Column c of the points of rows k and k + 1. Both numbers are worked out before one is stored: the two stores, which are neighbours, then become one.
+fn put_pair(columns: StateColumns, c: usize, k: usize, rows: usize, block: &mut [f64])
+    requires { (c < columns.dof) × Room columns.dof rows k 2 (length columns.state.now) (length block.old) }
+    ensures { Put rows columns.entry.dof k 2 c 1 (state_cell columns.entry.dof columns.entry.state.now columns.entry.n columns.entry.info) block.old block.new }
 {
-    let upper = map_plane::state_column(info, n, state, k * dof + c);
-    let lower = map_plane::state_column(info, n, state, (k + 1) * dof + c);
+    let upper = columns.cell(k, c);
+    let lower = columns.cell(k + 1, c);
     let at = c * rows + k;
     block[at] = upper;
     block[at + 1] = lower;
 }
 
 // The same of w columns from column c on.
-fn put_pairs(
-    state: &[f64],
-    dof: usize,
-    c: usize,
-    w: usize,
-    n: [f64; 3],
-    info: f64,
-    k: usize,
-    rows: usize,
-    block: &mut [f64],
-)
-    requires { (c + w ≤ dof) × Room dof rows k 2 (length state.now) (length block.old) }
-    ensures { Put rows dof k 2 c w (state_cell dof state.now n info) block.old block.new }
+fn put_pairs(columns: StateColumns, c: usize, w: usize, k: usize, rows: usize, block: &mut [f64])
+    requires { (c + w ≤ columns.dof) × Room columns.dof rows k 2 (length columns.state.now) (length block.old) }
+    ensures { Put rows columns.entry.dof k 2 c w (state_cell columns.entry.dof columns.entry.state.now columns.entry.n columns.entry.info) block.old block.new }
 {
-    let mut e = 0;
-    while e < w {
-        put_pair(state, dof, c + e, n, info, k, rows, block);
-        e += 1;
+    for e in 0..w {
+        put_pair(columns, c + e, k, rows, block);
     }
 }
 
 // w columns from column c on of the point of row k.
-fn put_row(
-    state: &[f64],
-    dof: usize,
-    c: usize,
-    w: usize,
-    n: [f64; 3],
-    info: f64,
-    k: usize,
-    rows: usize,
-    block: &mut [f64],
-)
-    requires { (c + w ≤ dof) × Room dof rows k 1 (length state.now) (length block.old) }
-    ensures { Put rows dof k 1 c w (state_cell dof state.now n info) block.old block.new }
+fn put_row(columns: StateColumns, c: usize, w: usize, k: usize, rows: usize, block: &mut [f64])
+    requires { (c + w ≤ columns.dof) × Room columns.dof rows k 1 (length columns.state.now) (length block.old) }
+    ensures { Put rows columns.entry.dof k 1 c w (state_cell columns.entry.dof columns.entry.state.now columns.entry.n columns.entry.info) block.old block.new }
 {
-    let mut e = 0;
-    while e < w {
-        block[(c + e) * rows + k] = map_plane::state_column(info, n, state, k * dof + (c + e));
-        e += 1;
+    for e in 0..w {
+        block[(c + e) * rows + k] = columns.cell(k, c + e);
     }
 }
 
 // The same of `count` rows from row `from` on: two at a time, and the last one alone where their number is odd.
 fn write_rows(
-    state: &[f64],
-    dof: usize,
+    columns: StateColumns,
     c: usize,
     w: usize,
-    n: [f64; 3],
-    info: f64,
     from: usize,
     count: usize,
     rows: usize,
     block: &mut [f64],
 )
-    requires { (c + w ≤ dof) × Room dof rows from count (length state.now) (length block.old) }
-    ensures { Put rows dof from count c w (state_cell dof state.now n info) block.old block.new }
+    requires { (c + w ≤ columns.dof) × Room columns.dof rows from count (length columns.state.now) (length block.old) }
+    ensures { Put rows columns.entry.dof from count c w (state_cell columns.entry.dof columns.entry.state.now columns.entry.n columns.entry.info) block.old block.new }
 {
-    let mut i = 0;
-    while i + 2 <= count {
-        put_pairs(state, dof, c, w, n, info, from + i, rows, block);
-        i += 2;
+    for i in 0..count / 2 {
+        put_pairs(columns, c, w, from + i * 2, rows, block);
     }
-    if i < count {
-        put_row(state, dof, c, w, n, info, from + i, rows, block);
+    if count % 2 == 1 {
+        put_row(columns, c, w, from + count - 1, rows, block);
     }
 }
 
 // Column c of the points of `count` rows from row `from` on.
 fn write_column(
-    state: &[f64],
-    dof: usize,
+    columns: StateColumns,
     c: usize,
-    n: [f64; 3],
-    info: f64,
     from: usize,
     count: usize,
     rows: usize,
     block: &mut [f64],
 )
-    requires { (c < dof) × Room dof rows from count (length state.now) (length block.old) }
-    ensures { Put rows dof from count c 1 (state_cell dof state.now n info) block.old block.new }
+    requires { (c < columns.dof) × Room columns.dof rows from count (length columns.state.now) (length block.old) }
+    ensures { Put rows columns.entry.dof from count c 1 (state_cell columns.entry.dof columns.entry.state.now columns.entry.n columns.entry.info) block.old block.new }
 {
-    let mut i = 0;
-    while i < count {
-        block[c * rows + (from + i)] = map_plane::state_column(
-            info,
-            n,
-            state,
-            (from + i) * dof + c,
-        );
-        i += 1;
+    for i in 0..count {
+        let k = from + i;
+        block[c * rows + k] = columns.cell(k, c);
     }
 }
 
 // The rows of a batch, column after column.
-fn write_columns(
-    state: &[f64],
-    dof: usize,
-    n: [f64; 3],
-    info: f64,
-    from: usize,
-    count: usize,
-    rows: usize,
-    block: &mut [f64],
-)
-    requires { Room dof rows from count (length state.now) (length block.old) }
-    ensures { Put rows dof from count 0 dof (state_cell dof state.now n info) block.old block.new }
+fn write_columns(columns: StateColumns, from: usize, count: usize, rows: usize, block: &mut [f64])
+    requires { Room columns.dof rows from count (length columns.state.now) (length block.old) }
+    ensures { Put rows columns.entry.dof from count 0 columns.entry.dof (state_cell columns.entry.dof columns.entry.state.now columns.entry.n columns.entry.info) block.old block.new }
 {
-    let mut c = 0;
-    while c < dof {
-        write_column(state, dof, c, n, info, from, count, rows, block);
-        c += 1;
+    for c in 0..columns.dof {
+        write_column(columns, c, from, count, rows, block);
     }
 }
 
 // The rows of a batch.
-fn write_batch(
-    state: &[f64],
-    dof: usize,
-    n: [f64; 3],
-    info: f64,
-    from: usize,
-    count: usize,
-    rows: usize,
-    block: &mut [f64],
-)
-    requires { Room dof rows from count (length state.now) (length block.old) }
-    ensures { Put rows dof from count 0 dof (state_cell dof state.now n info) block.old block.new }
+fn write_batch(columns: StateColumns, from: usize, count: usize, rows: usize, block: &mut [f64])
+    requires { Room columns.dof rows from count (length columns.state.now) (length block.old) }
+    ensures { Put rows columns.entry.dof from count 0 columns.entry.dof (state_cell columns.entry.dof columns.entry.state.now columns.entry.n columns.entry.info) block.old block.new }
 {
     let c = MOST_COLUMNS;
-    if dof <= c {
-        write_columns(state, dof, n, info, from, count, rows, block);
+    if columns.dof <= c {
+        write_columns(columns, from, count, rows, block);
         return;
     }
-    write_rows(state, dof, 0, c, n, info, from, count, rows, block);
-    write_rows(state, dof, c, dof - c, n, info, from, count, rows, block);
+    write_rows(columns, 0, c, from, count, rows, block);
+    write_rows(columns, c, columns.dof - c, from, count, rows, block);
 }
 
 // All rows of a frame's points in its block, batch after batch.
-fn write_batches(
-    state: &[f64],
-    dof: usize,
-    n: [f64; 3],
-    info: f64,
-    from: usize,
-    count: usize,
-    rows: usize,
-    block: &mut [f64],
-)
-    requires { Room dof rows from count (length state.now) (length block.old) }
-    ensures { Put rows dof from count 0 dof (state_cell dof state.now n info) block.old block.new }
+fn write_batches(columns: StateColumns, from: usize, count: usize, rows: usize, block: &mut [f64])
+    requires { Room columns.dof rows from count (length columns.state.now) (length block.old) }
+    ensures { Put rows columns.entry.dof from count 0 columns.entry.dof (state_cell columns.entry.dof columns.entry.state.now columns.entry.n columns.entry.info) block.old block.new }
 {
-    let mut i = 0;
-    while i < count {
+    for i in (0..count).step_by(BATCH) {
         let size = lists::batch_size(count, i, BATCH);
-        write_batch(state, dof, n, info, from + i, size, rows, block);
-        i += size;
+        write_batch(columns, from + i, size, rows, block);
     }
 }
 
 // All rows of a frame's points in its block.
-fn write_block(
-    state: &[f64],
-    dof: usize,
-    n: [f64; 3],
-    info: f64,
-    from: usize,
-    count: usize,
-    rows: usize,
-    block: &mut [f64],
-)
-    requires { Room dof rows from count (length state.now) (length block.old) }
-    ensures { Put rows dof from count 0 dof (state_cell dof state.now n info) block.old block.new }
+fn write_block(columns: StateColumns, from: usize, count: usize, rows: usize, block: &mut [f64])
+    requires { Room columns.dof rows from count (length columns.state.now) (length block.old) }
+    ensures { Put rows columns.entry.dof from count 0 columns.entry.dof (state_cell columns.entry.dof columns.entry.state.now columns.entry.n columns.entry.info) block.old block.new }
 {
     if rows < MANY_ROWS {
-        write_rows(state, dof, 0, dof, n, info, from, count, rows, block);
+        write_rows(columns, 0, columns.dof, from, count, rows, block);
     } else {
-        write_batches(state, dof, n, info, from, count, rows, block);
+        write_batches(columns, from, count, rows, block);
     }
 }
 
@@ -283,24 +215,19 @@ pub fn write_jacobian(
     ensures { jacobian.new ≡ grid rows (length counts.now * dof) (jacobian_cell counts.now dof state.now n info) }
 {
     lists::clear(jacobian);
+    let columns = StateColumns {
+        state,
+        dof,
+        n,
+        info,
+    };
     let size = dof * rows;
     let mut from = 0;
-    let mut f = 0;
-    while f < counts.len() {
-        let count = counts[f] as usize;
+    for (f, count) in counts.iter().enumerate() {
+        let count = *count as usize;
         let at = f * size;
         let end = at + size;
-        write_block(
-            state,
-            dof,
-            n,
-            info,
-            from,
-            count,
-            rows,
-            &mut jacobian[at..end],
-        );
+        write_block(columns, from, count, rows, &mut jacobian[at..end]);
         from += count;
-        f += 1;
     }
 }

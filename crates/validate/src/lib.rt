@@ -11,20 +11,11 @@ pub fn is_finite(x: f64) -> bool
     if -1.0 / 0.0 < x { x < 1.0 / 0.0 } else { false }
 }
 
-fn both(a: bool, b: bool) -> bool
-    ensures { result ≡ (a && b) }
-{
-    if a { b } else { false }
-}
-
 // Four numbers at once, with no branch between them.
 pub fn four_finite(a: f64, b: f64, c: f64, d: f64) -> bool
     ensures { result ≡ (finite a && finite b && (finite c && finite d)) }
 {
-    both(
-        both(is_finite(a), is_finite(b)),
-        both(is_finite(c), is_finite(d)),
-    )
+    (is_finite(a) & is_finite(b)) & (is_finite(c) & is_finite(d))
 }
 
 // Every number of a list. No early return: the compiler then tests several numbers at once.
@@ -32,10 +23,8 @@ pub fn all_finite(list: &[f64]) -> bool
     ensures { result ≡ all_finite list.now }
 {
     let mut all = true;
-    let mut k = 0;
-    while k < list.len() {
-        all = both(all, is_finite(list[k]));
-        k += 1;
+    for x in list {
+        all &= is_finite(*x);
     }
     all
 }

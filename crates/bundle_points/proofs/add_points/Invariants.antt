@@ -1,12 +1,8 @@
-use Prim.Native.Nat.{◌≤◌, ◌-◌}
 use mathlib.Core.Path.{◌≡◌}
 use Rattle.sums.specs.Sum.{sum_from}
-use Rattle.bundle_points.specs.Points.{point_count, coordinate}
+use Rattle.bundle_points.specs.Points.{coordinate}
 use Rattle.bundle_points.proofs.add_points.Given as goal
 
 abbrev pub invariant-loop-k : goal.invariant-loop-k
 invariant-loop-k l =
-    (l.k ≤ point_count l.list) × (l.x ≡ sum_from l.initial.x l.k (coordinate l.list 0)) × (l.y ≡ sum_from l.initial.y l.k (coordinate l.list 1)) × (l.z ≡ sum_from l.initial.z l.k (coordinate l.list 2))
-
-abbrev pub decreases-loop-k : goal.decreases-loop-k
-decreases-loop-k l = point_count l.list - l.k
+    (l.x ≡ sum_from l.initial.x l.k (coordinate l.list 0)) × (l.y ≡ sum_from l.initial.y l.k (coordinate l.list 1)) × (l.z ≡ sum_from l.initial.z l.k (coordinate l.list 2))

@@ -3,20 +3,18 @@ use mathlib.Core.Path.{◌≡◌, refl}
 use native.Mathlib.Omega.{arith}
 use Rattle.sums.specs.Laws.{sum_from_more}
 use Rattle.bundle_points.specs.Points.{point_count, coordinate, difference, spread}
-use borrow.Author.Rules.{rules}
 use Rattle.bundle_points.proofs.add_spread.Goals as goal
 
 pub loop-k-preserved : goal.loop-k-preserved
 unfolding spread difference coordinate
 loop-k-preserved c =
     let at = c.loop-k in (
-      search rules,
+      rw (sum_from_more _ at.k _, at.invariant.0),
       rw (sum_from_more _ at.k _, at.invariant.1),
       rw (sum_from_more _ at.k _, at.invariant.2),
       rw (sum_from_more _ at.k _, at.invariant.3),
       rw (sum_from_more _ at.k _, at.invariant.4),
       rw (sum_from_more _ at.k _, at.invariant.5),
-      rw (sum_from_more _ at.k _, at.invariant.6),
     )
 
 pub returns : goal.returns
@@ -24,7 +22,7 @@ unfolding spread difference
 returns c =
     let at = c.loop-k in
     let e : point_count c.args.list.now ≡ at.k = omega arith in
-    rw (e, at.invariant.1, at.invariant.2, at.invariant.3, at.invariant.4, at.invariant.5, at.invariant.6)
+    rw (e, at.invariant.0, at.invariant.1, at.invariant.2, at.invariant.3, at.invariant.4, at.invariant.5)
 
 pub loop-k-init : goal.loop-k-init
-loop-k-init c = (search rules, refl, refl, refl, refl, refl, refl)
+loop-k-init c = (refl, refl, refl, refl, refl, refl)

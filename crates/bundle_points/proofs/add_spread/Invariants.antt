@@ -1,15 +1,11 @@
-use Prim.Native.Nat.{◌≤◌, ◌-◌}
 use mathlib.Core.Path.{◌≡◌}
 use mathlib.Core.List.{[], ◌∷◌}
 use Rattle.sums.specs.Sum.{sum_from}
-use Rattle.bundle_points.specs.Points.{point_count, spread}
+use Rattle.bundle_points.specs.Points.{spread}
 use Rattle.bundle_points.proofs.add_spread.Given as goal
 
 abbrev pub invariant-loop-k : goal.invariant-loop-k
 invariant-loop-k l =
     let q = l.q0 ∷ l.q1 ∷ l.q2 ∷ [] in
-    (l.k ≤ point_count l.list) × (l.xx ≡ sum_from l.initial.xx l.k (spread l.list q 0 0)) × (l.xy ≡ sum_from l.initial.xy l.k (spread l.list q 0 1)) × (l.xz ≡ sum_from l.initial.xz l.k (spread l.list q 0 2))
+    (l.xx ≡ sum_from l.initial.xx l.k (spread l.list q 0 0)) × (l.xy ≡ sum_from l.initial.xy l.k (spread l.list q 0 1)) × (l.xz ≡ sum_from l.initial.xz l.k (spread l.list q 0 2))
     × (l.yy ≡ sum_from l.initial.yy l.k (spread l.list q 1 1)) × (l.yz ≡ sum_from l.initial.yz l.k (spread l.list q 1 2)) × (l.zz ≡ sum_from l.initial.zz l.k (spread l.list q 2 2))
-
-abbrev pub decreases-loop-k : goal.decreases-loop-k
-decreases-loop-k l = point_count l.list - l.k

@@ -10,43 +10,30 @@ use Rattle.bundle_rows.proofs.put_pair.Goals as goal
 use Rattle.bundle_rows.proofs.put_pair.Goals.{Start}
 
 -- the two cells are within the block
-upper : (s : Start) → Reached s.args.dof s.args.rows s.args.k s.args.c (length s.args.state.now) (length s.args.block.now)
+upper : (s : Start) → Reached s.args.columns.dof s.args.rows s.args.k s.args.c (length s.args.columns.state.now) (length s.args.block.now)
 upper s = reached _ _ _ _ _ _ s.requires.1 s.args.k s.args.c (omega arith) s.requires.0
 
-lower : (s : Start) → Reached s.args.dof s.args.rows (s.args.k + 1) s.args.c (length s.args.state.now) (length s.args.block.now)
+lower : (s : Start) → Reached s.args.columns.dof s.args.rows (s.args.k + 1) s.args.c (length s.args.columns.state.now) (length s.args.block.now)
 lower s = reached _ _ _ _ _ _ s.requires.1 (s.args.k + 1) s.args.c (omega arith) s.requires.0
 
 pub returns : goal.returns
-unfolding state_cell
 returns c =
     let s = (goal.at.returns c).Start in
     let a = c.args in
     let whole = c.requires.1.whole in
-    let f = state_cell a.dof a.state.now a.n a.info in
+    let f = state_cell a.columns.dof a.columns.state.now a.columns.n a.columns.info in
     let place : a.c * a.rows + a.k + 1 ≡ a.c * a.rows + (a.k + 1) = omega arith in
-    let one = put-cell a.rows a.dof f a.k a.c _ a.block.now whole (upper s).row c.requires.0 c.state_column-upper.ensures in
-    rw place (rows_more a.rows a.dof f a.k 1 1 a.c 1 _ _ _ one (put-cell a.rows a.dof f (a.k + 1) a.c _ _ (one.size ∙ whole) (lower s).row c.requires.0 c.state_column-lower.ensures))
+    let one = put-cell a.rows a.columns.dof f a.k a.c _ a.block.now whole (upper s).row c.requires.0 c.cell-upper.ensures in
+    rw place (rows_more a.rows a.columns.dof f a.k 1 1 a.c 1 _ _ _ one (put-cell a.rows a.columns.dof f (a.k + 1) a.c _ _ (one.size ∙ whole) (lower s).row c.requires.0 c.cell-lower.ensures))
 
-pub overflow_mul-k : goal.overflow_mul-k
-overflow_mul-k c = omega (arith, upper (goal.at.overflow_mul-k c).Start)
+pub cell-upper-requires : goal.cell-upper-requires
+cell-upper-requires c = (upper (goal.at.cell-upper-requires c).Start).column
 
 pub overflow_add-k : goal.overflow_add-k
-overflow_add-k c = omega (arith, upper (goal.at.overflow_add-k c).Start)
+overflow_add-k c = omega (arith, lower (goal.at.overflow_add-k c).Start)
 
-pub state_column-upper-requires : goal.state_column-upper-requires
-state_column-upper-requires c = omega (arith, upper (goal.at.state_column-upper-requires c).Start)
-
-pub overflow_add-k-2 : goal.overflow_add-k-2
-overflow_add-k-2 c = omega (arith, lower (goal.at.overflow_add-k-2 c).Start)
-
-pub overflow_mul-k-2 : goal.overflow_mul-k-2
-overflow_mul-k-2 c = omega (arith, lower (goal.at.overflow_mul-k-2 c).Start)
-
-pub overflow_add-k-3 : goal.overflow_add-k-3
-overflow_add-k-3 c = omega (arith, lower (goal.at.overflow_add-k-3 c).Start)
-
-pub state_column-lower-requires : goal.state_column-lower-requires
-state_column-lower-requires c = omega (arith, lower (goal.at.state_column-lower-requires c).Start)
+pub cell-lower-requires : goal.cell-lower-requires
+cell-lower-requires c = (lower (goal.at.cell-lower-requires c).Start).column
 
 pub overflow_mul-at : goal.overflow_mul-at
 overflow_mul-at c = omega (arith, upper (goal.at.overflow_mul-at c).Start)
@@ -67,4 +54,4 @@ pub offset_bounds-block-at-2 : goal.offset_bounds-block-at-2
 offset_bounds-block-at-2 c = omega (arith, lower (goal.at.offset_bounds-block-at-2 c).Start)
 
 pub bounds-block-at-2 : goal.bounds-block-at-2
-bounds-block-at-2 c = omega (arith, lower (goal.at.bounds-block-at-2 c).Start, length-set c.args.block.now (c.args.c * c.args.rows + c.args.k) c.state_column-upper.result)
+bounds-block-at-2 c = omega (arith, lower (goal.at.bounds-block-at-2 c).Start, length-set c.args.block.now (c.args.c * c.args.rows + c.args.k) c.cell-upper.result)

@@ -6,44 +6,36 @@ use lib.ListN.{length}
 use Rattle.bundle_rows.specs.Steps.{state_cell}
 use Rattle.bundle_rows.proofs.Places.{Reached, reached}
 use Rattle.bundle_rows.proofs.Cells.{put-cell, columns-none, columns_more}
-use borrow.Author.Rules.{rules}
 use Rattle.bundle_rows.proofs.put_row.Goals as goal
 use Rattle.bundle_rows.proofs.put_row.Goals.{In-loop-e}
 
 -- the turn's cell is within the block
-here : (t : In-loop-e) → let a = t.args in Reached a.dof a.rows a.k (a.c + t.loop-e.e) (length a.state.now) (length a.block.now)
+here : (t : In-loop-e) → let a = t.args in Reached a.columns.dof a.rows a.k (a.c + t.loop-e.e) (length a.columns.state.now) (length a.block.now)
 here t = reached _ _ _ _ _ _ t.requires.1 t.args.k (t.args.c + t.loop-e.e) (omega arith) (omega (arith, t.loop-e-test.true, t.requires.0))
 
 narrow : (t : In-loop-e) → t.args.c + t.loop-e.e < 9
 narrow t = omega (arith, t.loop-e-test.true, t.requires.0, t.requires.1.narrow)
 
 pub loop-e-preserved : goal.loop-e-preserved
-unfolding state_cell
 loop-e-preserved c =
     let l = c.loop-e in
     let a = c.args in
-    let f = state_cell a.dof a.state.now a.n a.info in
-    (search rules, columns_more a.rows a.dof f a.k 1 a.c l.e 1 _ _ _ l.invariant.1 (put-cell a.rows a.dof f a.k (a.c + l.e) _ l.block (l.invariant.1.size ∙ c.requires.1.whole) (here (goal.at.loop-e-preserved c).In-loop-e).row (omega (arith, c.loop-e-test.true, c.requires.0)) c.state_column.ensures))
+    let f = state_cell a.columns.dof a.columns.state.now a.columns.n a.columns.info in
+    (columns_more a.rows a.columns.dof f a.k 1 a.c l.e 1 _ _ _ l.invariant (put-cell a.rows a.columns.dof f a.k (a.c + l.e) _ l.block (l.invariant.size ∙ c.requires.1.whole) (here (goal.at.loop-e-preserved c).In-loop-e).row (omega (arith, c.loop-e-test.true, c.requires.0)) c.cell.ensures))
 
 pub returns : goal.returns
 returns c =
     let all : c.loop-e.e ≡ c.args.w = omega arith in
-    rw all at c.loop-e.invariant.1
+    rw all at c.loop-e.invariant
 
 pub loop-e-init : goal.loop-e-init
-loop-e-init c = (search rules, columns-none _ _ _ _ _ _ _)
-
-pub overflow_mul-k : goal.overflow_mul-k
-overflow_mul-k c = omega (arith, here c)
+loop-e-init c = columns-none _ _ _ _ _ _ _
 
 pub overflow_add-c : goal.overflow_add-c
 overflow_add-c c = omega (arith, narrow c)
 
-pub overflow_add-k : goal.overflow_add-k
-overflow_add-k c = omega (arith, here c)
-
-pub state_column-requires : goal.state_column-requires
-state_column-requires c = omega (arith, here c)
+pub cell-requires : goal.cell-requires
+cell-requires c = (here (goal.at.cell-requires c).In-loop-e).column
 
 pub overflow_add-block : goal.overflow_add-block
 overflow_add-block c = omega (arith, narrow (goal.at.overflow_add-block c).In-loop-e)
@@ -58,7 +50,4 @@ pub offset_bounds-block-c : goal.offset_bounds-block-c
 offset_bounds-block-c c = omega (arith, here (goal.at.offset_bounds-block-c c).In-loop-e)
 
 pub bounds-block-c : goal.bounds-block-c
-bounds-block-c c = omega (arith, here (goal.at.bounds-block-c c).In-loop-e, c.loop-e.invariant.1.size)
-
-pub overflow_add-e : goal.overflow_add-e
-overflow_add-e c = omega (arith, narrow (goal.at.overflow_add-e c).In-loop-e)
+bounds-block-c c = omega (arith, here (goal.at.bounds-block-c c).In-loop-e, c.loop-e.invariant.size)

@@ -5,4 +5,4 @@ use Rattle.bundle_rows.proofs.write_batch.Goals as goal
 
 pub returns : goal.returns
 returns c =
-    columns-to _ _ _ _ _ 6 _ _ _ _ (omega (arith, c.if-dof-c.false)) c.write_rows.ensures c.write_rows-2.ensures
+    columns-to _ _ _ _ _ 6 _ _ _ _ (omega (arith, c.if-columns-c.false)) c.write_rows.ensures c.write_rows-2.ensures

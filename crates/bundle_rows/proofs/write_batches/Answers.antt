@@ -23,7 +23,8 @@ write_batch-requires c =
 pub loop-i-preserved : goal.loop-i-preserved
 loop-i-preserved c =
     let l = c.loop-i in
-    ((fits (goal.at.loop-i-preserved c).After-batch_size-size).1, rows_more _ _ _ _ l.i _ _ _ _ _ _ l.invariant.1 c.write_batch.ensures)
+    let e : c.batch_size-size.result ≡ 16 = omega arith in
+    (search rules, rw e at (rows_more _ _ _ _ l.i _ _ _ _ _ _ l.invariant.1 c.write_batch.ensures))
 
 pub returns : goal.returns
 returns c =
@@ -35,9 +36,6 @@ loop-i-init c = (search rules, rows_none _ _ _ _ _ _ _)
 
 pub overflow_add-from : goal.overflow_add-from
 overflow_add-from c = omega (arith, fits c)
-
-pub overflow_add-i : goal.overflow_add-i
-overflow_add-i c = omega (arith, fits (goal.at.overflow_add-i c).After-batch_size-size)
 
 pub loop-i-smaller : goal.loop-i-smaller
 loop-i-smaller c = omega (arith, fits (goal.at.loop-i-smaller c).After-batch_size-size)

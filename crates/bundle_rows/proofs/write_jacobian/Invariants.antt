@@ -1,4 +1,4 @@
-use Prim.Native.Nat.{◌-◌, ◌*◌}
+use Prim.Native.Nat.{◌*◌}
 use mathlib.Core.Path.{◌≡◌}
 use lib.ListN.{length}
 use Rattle.sums.specs.Fill.{Columns}
@@ -8,7 +8,4 @@ use Rattle.bundle_rows.proofs.write_jacobian.Given as goal
 
 abbrev pub invariant-loop-f : goal.invariant-loop-f
 invariant-loop-f l =
-    (l.from ≡ start l.counts l.f) × Columns (l.dof * l.rows) (length l.counts) (block_number l.counts l.dof l.state l.n l.info l.rows) l.initial.jacobian l.jacobian l.f
-
-abbrev pub decreases-loop-f : goal.decreases-loop-f
-decreases-loop-f l = length l.counts - l.f
+    (l.from ≡ start l.counts l.f) × Columns (l.dof * l.rows) (length l.counts) (block_number l.counts l.dof l.state l.fn.n l.info l.rows) l.initial.jacobian l.jacobian l.f

@@ -2,5 +2,4 @@
 use Rattle.validate.proofs.four_finite.Goals as goal
 
 pub returns : goal.returns
-returns c =
-    rw (c.both-3.ensures, c.both-2.ensures, c.both.ensures, c.is_finite-4.ensures, c.is_finite-3.ensures, c.is_finite-2.ensures, c.is_finite.ensures)
+returns c = rw (c.is_finite-4.ensures, c.is_finite-3.ensures, c.is_finite-2.ensures, c.is_finite.ensures)
