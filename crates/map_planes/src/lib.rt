@@ -15,6 +15,7 @@ use refusals::Refusal;
 pub const MOST_MATCHES: usize = 65536;
 
 // 3: the list is not whole matches, or has too many.
+#[tactic(auto, unfolding(crate::specs::Calls::bad_matches))]
 fn bad_matches(list: &[f64]) -> bool
     ensures { result ≡ bad_matches list.now }
 {
@@ -35,6 +36,7 @@ fn list_refusal(list: &[f64]) -> Result<(), Refusal>
 }
 
 // Whether a call on a match list is turned away. `misfit` says whether some other slice of the call has a wrong length.
+#[tactic(auto, unfolding(crate::specs::Calls::matches_refusal))]
 pub fn matches_refusal(dof: u32, list: &[f64], misfit: bool, action: &[f64]) -> Result<(), Refusal>
     ensures { number result ≡ matches_refusal dof list.now misfit action.now }
 {

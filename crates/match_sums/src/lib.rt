@@ -20,6 +20,16 @@ use map_plane::MATCH;
 // How many matches are summed before their sum is added.
 pub const GROUP: usize = 512;
 
+// A match list, the action that carries its points, and the action's derivative by rows.
+#[derive(Clone, Copy)]
+struct Listed<'a> {
+    list: &'a [f64],
+    action: &'a [f64],
+    rows: &'a [f64; 108],
+    ghost whole: { length action.now ≡ action_size },
+    ghost rows_are: { rows.now ≡ by_rows action.now },
+}
+
 // Adds `row` times `a` to the first c + 1 cells of column c.
 #[inline(always)]
 fn add_column<const W: usize>(row: &[f64; W], a: f64, c: usize, h: &mut [f64; 81])
@@ -60,15 +70,15 @@ struct Batch {
 
 impl Batch {
     // The loop's stores are neighbours, so that the compiler works out two matches at a time.
-    fn of(list: &[f64], from: usize, size: usize, x: &[f64]) -> Batch
-        requires { ((from + size) * MATCH ≤ length list.now) × (size ≤ 16) × (length x.now ≡ action_size) }
-        ensures { (result.from ≡ from) × (result.size ≡ size) × First size result.infos (λ k. information_at list.now (from + k)) × First size result.residuals (λ k. residual_at x.now list.now (from + k)) }
+    fn of(m: &Listed, from: usize, size: usize) -> Batch
+        requires { ((from + size) * MATCH ≤ length m.now.list.now) × (size ≤ 16) }
+        ensures { (result.from ≡ from) × (result.size ≡ size) × First size result.infos (λ k. information_at m.now.list.now (from + k)) × First size result.residuals (λ k. residual_at m.now.action.now m.now.list.now (from + k)) }
     {
         let mut infos = [0.0; 16];
         let mut residuals = [0.0; 16];
         for k in 0..size {
-            infos[k] = match_rows::information_at(list, from + k);
-            residuals[k] = match_rows::residual_at(list, from + k, x);
+            infos[k] = match_rows::information_at(m.list, from + k);
+            residuals[k] = match_rows::residual_at(m.list, from + k, m.action);
         }
         Batch {
             from,
@@ -82,37 +92,35 @@ impl Batch {
 // Adds match k, whose information and residual are worked out, with the first W numbers of its row.
 #[inline(always)]
 fn add_match<const W: usize>(
-    list: &[f64],
+    m: &Listed,
     k: usize,
-    t: &[f64; 108],
     info: f64,
     r: f64,
     h: &mut [f64; 81],
     g: &mut [f64; 9],
 )
-    requires { (k * MATCH + MATCH ≤ length list.now) × (W ≤ 9) }
-    ensures { Added W (squares (row_by_at t.now list.now k info)) (slants (row_by_at t.now list.now k info) r) h.old g.old h.new g.new }
+    requires { (k * MATCH + MATCH ≤ length m.now.list.now) × (W ≤ 9) }
+    ensures { Added W (squares (row_by_at m.now.rows.now m.now.list.now k info)) (slants (row_by_at m.now.rows.now m.now.list.now k info) r) h.old g.old h.new g.new }
 {
-    let row = match_rows::row_at::<W>(list, k, t, info);
+    let row = match_rows::row_at::<W>(m.list, k, m.rows, info);
     add_row(&row, r, h, g);
 }
 
 // Adds the matches of a batch, and gives the cost with their squared residuals.
 fn add_batch<const W: usize>(
-    list: &[f64],
+    m: &Listed,
     b: &Batch,
-    t: &[f64; 108],
     h: &mut [f64; 81],
     g: &mut [f64; 9],
     cost: f64,
 ) -> f64
-    requires { ((b.now.from + b.now.size) * MATCH ≤ length list.now) × (b.now.size ≤ 16) × (W ≤ 9) }
-    ensures { (result ≡ sum_from cost b.now.size (batch_cost b.now.residuals)) × Summed W b.now.size (batch_block t.now list.now b.now.from b.now.infos) (batch_vector t.now list.now b.now.from b.now.infos b.now.residuals) h.old g.old h.new g.new }
+    requires { ((b.now.from + b.now.size) * MATCH ≤ length m.now.list.now) × (b.now.size ≤ 16) × (W ≤ 9) }
+    ensures { (result ≡ sum_from cost b.now.size (batch_cost b.now.residuals)) × Summed W b.now.size (batch_block m.now.rows.now m.now.list.now b.now.from b.now.infos) (batch_vector m.now.rows.now m.now.list.now b.now.from b.now.infos b.now.residuals) h.old g.old h.new g.new }
 {
     let mut sum = cost;
     for k in 0..b.size {
         let r = b.residuals[k];
-        add_match::<W>(list, b.from + k, t, b.infos[k], r, h, g);
+        add_match::<W>(m, b.from + k, b.infos[k], r, h, g);
         sum = sum + r * r;
     }
     sum
@@ -120,52 +128,47 @@ fn add_batch<const W: usize>(
 
 // The same with the first `dof` numbers of each row: a copy of the code for each width.
 fn add_batch_by(
-    list: &[f64],
+    m: &Listed,
     b: &Batch,
-    t: &[f64; 108],
     dof: usize,
     h: &mut [f64; 81],
     g: &mut [f64; 9],
     cost: f64,
 ) -> f64
-    requires { ((b.now.from + b.now.size) * MATCH ≤ length list.now) × (b.now.size ≤ 16) × (dof ≤ 9) }
-    ensures { (result ≡ sum_from cost b.now.size (batch_cost b.now.residuals)) × Summed dof b.now.size (batch_block t.now list.now b.now.from b.now.infos) (batch_vector t.now list.now b.now.from b.now.infos b.now.residuals) h.old g.old h.new g.new }
+    requires { ((b.now.from + b.now.size) * MATCH ≤ length m.now.list.now) × (b.now.size ≤ 16) × (dof ≤ 9) }
+    ensures { (result ≡ sum_from cost b.now.size (batch_cost b.now.residuals)) × Summed dof b.now.size (batch_block m.now.rows.now m.now.list.now b.now.from b.now.infos) (batch_vector m.now.rows.now m.now.list.now b.now.from b.now.infos b.now.residuals) h.old g.old h.new g.new }
 {
     match dof {
-        0 => add_batch::<0>(list, b, t, h, g, cost),
-        1 => add_batch::<1>(list, b, t, h, g, cost),
-        2 => add_batch::<2>(list, b, t, h, g, cost),
-        3 => add_batch::<3>(list, b, t, h, g, cost),
-        4 => add_batch::<4>(list, b, t, h, g, cost),
-        5 => add_batch::<5>(list, b, t, h, g, cost),
-        6 => add_batch::<6>(list, b, t, h, g, cost),
-        7 => add_batch::<7>(list, b, t, h, g, cost),
-        8 => add_batch::<8>(list, b, t, h, g, cost),
-        9 => add_batch::<9>(list, b, t, h, g, cost),
+        0 => add_batch::<0>(m, b, h, g, cost),
+        1 => add_batch::<1>(m, b, h, g, cost),
+        2 => add_batch::<2>(m, b, h, g, cost),
+        3 => add_batch::<3>(m, b, h, g, cost),
+        4 => add_batch::<4>(m, b, h, g, cost),
+        5 => add_batch::<5>(m, b, h, g, cost),
+        6 => add_batch::<6>(m, b, h, g, cost),
+        7 => add_batch::<7>(m, b, h, g, cost),
+        8 => add_batch::<8>(m, b, h, g, cost),
+        9 => add_batch::<9>(m, b, h, g, cost),
         _ => unreachable!(),
     }
 }
 
 // Adds `size` matches from `from` on, batch after batch, and gives the sum of their squared residuals.
 fn add_group(
-    list: &[f64],
+    m: &Listed,
     from: usize,
     size: usize,
-    x: &[f64],
-    t: &[f64; 108],
     dof: usize,
     h: &mut [f64; 81],
     g: &mut [f64; 9],
 ) -> f64
-    requires { ((from + size) * MATCH ≤ length list.now) × (length x.now ≡ action_size) × (t.now ≡ by_rows x.now) × (dof ≤ 9) }
-    ensures { (result ≡ sum_from zero_f size (λ k. cost_term x.now list.now (from + k))) × Summed dof size (λ i j k. block_term x.now list.now i j (from + k)) (λ i k. vector_term x.now list.now i (from + k)) h.old g.old h.new g.new }
+    requires { ((from + size) * MATCH ≤ length m.now.list.now) × (dof ≤ 9) }
+    ensures { (result ≡ sum_from zero_f size (λ k. cost_term m.now.action.now m.now.list.now (from + k))) × Summed dof size (λ i j k. block_term m.now.action.now m.now.list.now i j (from + k)) (λ i k. vector_term m.now.action.now m.now.list.now i (from + k)) h.old g.old h.new g.new }
 {
     let mut cost = 0.0;
-    let mut i = 0;
-    while i < size {
-        let b = Batch::of(list, from + i, lists::batch_size(size, i, BATCH), x);
-        cost = add_batch_by(list, &b, t, dof, h, g, cost);
-        i += b.size;
+    for i in (0..size).step_by(BATCH) {
+        let b = Batch::of(m, from + i, lists::batch_size(size, i, BATCH));
+        cost = add_batch_by(m, &b, dof, h, g, cost);
     }
     cost
 }
@@ -188,6 +191,7 @@ fn group_count(n: usize) -> usize
 }
 
 // How many of n matches are in group q.
+#[tactic(auto, unfolding(crate::specs::Groups::group_size))]
 fn group_size(n: usize, q: usize) -> usize
     requires { (n < 2000000000000000000) × (q * GROUP < n) }
     ensures { result ≡ group_size n q }
@@ -200,50 +204,36 @@ fn group_size(n: usize, q: usize) -> usize
 }
 
 // Sums group q from +0, adds its sums to h and g, and gives its cost.
-fn add_group_sums(
-    list: &[f64],
-    q: usize,
-    x: &[f64],
-    t: &[f64; 108],
-    dof: usize,
-    h: &mut [f64; 81],
-    g: &mut [f64; 9],
-) -> f64
-    requires { (q * GROUP < match_count list.now) × (length x.now ≡ action_size) × (t.now ≡ by_rows x.now) × (dof ≤ 9) }
-    ensures { (result ≡ group_sum (match_count list.now) (cost_term x.now list.now) q) × Added dof (λ i j. group_sum (match_count list.now) (block_term x.now list.now i j) q) (λ i. group_sum (match_count list.now) (vector_term x.now list.now i) q) h.old g.old h.new g.new }
+fn add_group_sums(m: &Listed, q: usize, dof: usize, h: &mut [f64; 81], g: &mut [f64; 9]) -> f64
+    requires { (q * GROUP < match_count m.now.list.now) × (dof ≤ 9) }
+    ensures { (result ≡ group_sum (match_count m.now.list.now) (cost_term m.now.action.now m.now.list.now) q) × Added dof (λ i j. group_sum (match_count m.now.list.now) (block_term m.now.action.now m.now.list.now i j) q) (λ i. group_sum (match_count m.now.list.now) (vector_term m.now.action.now m.now.list.now i) q) h.old g.old h.new g.new }
 {
-    let n = list.len() / MATCH;
+    let n = m.list.len() / MATCH;
     let size = group_size(n, q);
     let from = q * GROUP;
     let mut sums = [0.0; 81];
     let mut slopes = [0.0; 9];
-    let cost = add_group(list, from, size, x, t, dof, &mut sums, &mut slopes);
+    let cost = add_group(m, from, size, dof, &mut sums, &mut slopes);
     add_numbers(&sums, h);
     add_numbers(&slopes, g);
     cost
 }
 
 // The groups' sums, summed in order.
-fn add_groups(
-    list: &[f64],
-    x: &[f64],
-    t: &[f64; 108],
-    dof: usize,
-    h: &mut [f64; 81],
-    g: &mut [f64; 9],
-) -> f64
-    requires { (length x.now ≡ action_size) × (t.now ≡ by_rows x.now) × (dof ≤ 9) }
-    ensures { (result ≡ list_cost x.now list.now) × Summed dof (groups (match_count list.now)) (λ i j. group_sum (match_count list.now) (block_term x.now list.now i j)) (λ i. group_sum (match_count list.now) (vector_term x.now list.now i)) h.old g.old h.new g.new }
+fn add_groups(m: &Listed, dof: usize, h: &mut [f64; 81], g: &mut [f64; 9]) -> f64
+    requires { dof ≤ 9 }
+    ensures { (result ≡ list_cost m.now.action.now m.now.list.now) × Summed dof (groups (match_count m.now.list.now)) (λ i j. group_sum (match_count m.now.list.now) (block_term m.now.action.now m.now.list.now i j)) (λ i. group_sum (match_count m.now.list.now) (vector_term m.now.action.now m.now.list.now i)) h.old g.old h.new g.new }
 {
-    let n = list.len() / MATCH;
+    let n = m.list.len() / MATCH;
     let mut cost = 0.0;
     for q in 0..group_count(n) {
-        cost = cost + add_group_sums(list, q, x, t, dof, h, g);
+        cost = cost + add_group_sums(m, q, dof, h, g);
     }
     cost
 }
 
 // Where the upper half has cell i, j.
+#[tactic(auto, unfolding(crate::specs::Cells::upper_place))]
 fn upper_place(i: usize, j: usize) -> usize
     requires { (i < 9) × (j < 9) }
     ensures { (result ≡ upper_place i j) × (result < 81) }
@@ -282,7 +272,12 @@ pub fn match_sums(list: &[f64], x: &[f64], dof: usize) -> MatchSums
     let t = match_rows::by_rows(x);
     let mut upper = [0.0; 81];
     let mut vector = [0.0; 9];
-    let cost = add_groups(list, x, &t, dof, &mut upper, &mut vector);
+    let m = Listed {
+        list,
+        action: x,
+        rows: &t,
+    };
+    let cost = add_groups(&m, dof, &mut upper, &mut vector);
     let block = mirrored(&upper);
     MatchSums {
         cost,

@@ -1,5 +1,6 @@
 -- `match_columns::write_first` meets its contract: match after match, its residual and its entries. Assumes nothing.
-use Prim.Native.Nat.{◌+◌, ◌-◌, ◌<◌}
+use Prim.Native.Nat.{ℕ, ◌+◌, ◌-◌, ◌*◌, ◌<◌, ◌≤◌}
+use lib.ListN.{length}
 use mathlib.Core.Path.{◌≡◌, refl}
 use native.Mathlib.Nat.{zero-add, mul-le-mul_right}
 use native.Mathlib.Omega.{arith}
@@ -13,14 +14,19 @@ use Rattle.match_columns.proofs.write_first.Goals as goal
 pub loop-k-init : goal.loop-k-init
 loop-k-init g c = begun_none _ _ _ _ g.row.W c.args.residual.now _ c.requires.2
 
+-- a column before another is within the matrix
+within : (c w n rows l : ℕ) → c + w ≤ n → n * rows ≤ l → (c + w) * rows ≤ l
+within c w n rows l h k = omega (arith, mul-le-mul_right rows h)
+
 pub put_entries-requires : goal.put_entries-requires
 put_entries-requires g c =
-    (search rules, omega arith, omega (arith, mul-le-mul_right c.args.rows c.requires.3, c.requires.5, c.loop-k.invariant.2))
+    let fits : g.row.W * c.args.rows ≤ length c.loop-k.out = omega (arith, c.requires.5, c.loop-k.invariant.2) in
+    (search rules, omega arith, within 0 3 g.row.W _ _ (omega arith) fits)
 
 pub put_entries-requires-in-loop-k : goal.put_entries-requires-in-loop-k
 put_entries-requires-in-loop-k g c =
-    let e : 3 + (g.row.W - 3) ≡ g.row.W = omega arith in
-    (search rules, omega arith, rw e (omega (arith, c.requires.5, c.loop-k.invariant.2, c.put_entries.ensures.size)))
+    let fits : g.row.W * c.args.rows ≤ length c.put_entries.new.out = omega (arith, c.requires.5, c.loop-k.invariant.2, c.put_entries.ensures.size) in
+    (search rules, omega arith, within _ _ g.row.W _ _ (omega arith) fits)
 
 pub loop-k-preserved : goal.loop-k-preserved
 unfolding rows_by residual_at

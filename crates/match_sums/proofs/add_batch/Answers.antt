@@ -17,7 +17,7 @@ loop-k-preserved g c =
     let did = c.add_match.ensures in (
       omega (arith, did.size),
       omega (arith, did.long),
-      rw (sum_from_more _ at.k _, at.invariant.2),
+      rw (sum_from_more c.args.cost at.k _, at.invariant.2),
       summed_more g.row.W at.k _ _ _ _ _ _ _ _ at.invariant.3 did,
     )
 

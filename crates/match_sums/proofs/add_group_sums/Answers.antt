@@ -13,15 +13,15 @@ use Rattle.match_sums.proofs.add_group_sums.Goals as goal
 pub add_group-cost-requires : goal.add_group-cost-requires
 add_group-cost-requires c =
     let a = c.args in
-    let fits = group_size_fits (match_count a.list.now) a.q (search rules) in
-    (omega (arith, fits, c.group_size-size.ensures), search rules, search rules, search rules)
+    let fits = group_size_fits (match_count a.m.now.list.now) a.q (search rules) in
+    (omega (arith, fits, c.group_size-size.ensures), search rules)
 
 pub returns : goal.returns
 unfolding group_sum
 returns c =
     let a = c.args in
-    let x = a.x.now in
-    let ms = a.list.now in
+    let x = a.m.now.action.now in
+    let ms = a.m.now.list.now in
     let e = c.group_size-size.ensures in (
       c.add_group-cost.ensures.0 ∙ ap (λ s. sum_from zero_f s (λ k. cost_term x ms (a.q * GROUP + k))) e,
       group_added a.dof (match_count ms) a.q _ (block_term x ms) (vector_term x ms) _ _ _ _ _ _ _ _ (search rules) e (length-replicate 81 zero_f) (length-replicate 9 zero_f)

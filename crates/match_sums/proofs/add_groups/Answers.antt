@@ -25,5 +25,5 @@ pub returns : goal.returns
 unfolding list_cost by_groups
 returns c =
     let at = c.loop-q in
-    let e : at.q ≡ groups (match_count c.args.list.now) = omega arith in
+    let e : at.q ≡ groups (match_count c.args.m.now.list.now) = omega arith in
     (rw e at at.invariant.2, rw e at at.invariant.3)

@@ -7,4 +7,4 @@ use Rattle.match_sums.proofs.Batch.of.Given as goal
 
 abbrev pub invariant-loop-k : goal.invariant-loop-k
 invariant-loop-k l =
-    (length l.infos ≡ 16) × (length l.residuals ≡ 16) × First l.k l.infos (λ k. information_at l.list (l.from + k)) × First l.k l.residuals (λ k. residual_at l.x l.list (l.from + k))
+    (length l.infos ≡ 16) × (length l.residuals ≡ 16) × First l.k l.infos (λ k. information_at l.m.list.now (l.from + k)) × First l.k l.residuals (λ k. residual_at l.m.action.now l.m.list.now (l.from + k))
