@@ -30,6 +30,13 @@ struct Listed<'a> {
     ghost rows_are: { rows.now ≡ by_rows action.now },
 }
 
+// What matches are summed in: the block, of which the upper half is kept, and the vector.
+#[derive(Drop)]
+struct Upper {
+    block: [f64; 81],
+    vector: [f64; 9],
+}
+
 // Adds `row` times `a` to the first c + 1 cells of column c.
 #[inline(always)]
 fn add_column<const W: usize>(row: &[f64; W], a: f64, c: usize, h: &mut [f64; 81])
@@ -43,16 +50,16 @@ fn add_column<const W: usize>(row: &[f64; W], a: f64, c: usize, h: &mut [f64; 81
     }
 }
 
-// Adds the products of a row's numbers to the upper half of h, and those with r to g.
+// Adds the products of a row's numbers to the upper half of the block, and those with r to the vector.
 #[inline(always)]
-fn add_row<const W: usize>(row: &[f64; W], r: f64, h: &mut [f64; 81], g: &mut [f64; 9])
+fn add_row<const W: usize>(row: &[f64; W], r: f64, u: &mut Upper)
     requires { W ≤ 9 }
-    ensures { Added W (squares (λ c. row.now ! c)) (slants (λ c. row.now ! c) r) h.old g.old h.new g.new }
+    ensures { Added W (squares (λ c. row.now ! c)) (slants (λ c. row.now ! c) r) u.old.block u.old.vector u.new.block u.new.vector }
 {
     for c in 0..W {
         let a = row[c];
-        add_column(row, a, c, h);
-        g[c] = g[c] + a * r;
+        add_column(row, a, c, &mut u.block);
+        u.vector[c] = u.vector[c] + a * r;
     }
 }
 
@@ -91,84 +98,57 @@ impl Batch {
 
 // Adds match k, whose information and residual are worked out, with the first W numbers of its row.
 #[inline(always)]
-fn add_match<const W: usize>(
-    m: &Listed,
-    k: usize,
-    info: f64,
-    r: f64,
-    h: &mut [f64; 81],
-    g: &mut [f64; 9],
-)
+fn add_match<const W: usize>(m: &Listed, k: usize, info: f64, r: f64, u: &mut Upper)
     requires { (k * MATCH + MATCH ≤ length m.now.list.now) × (W ≤ 9) }
-    ensures { Added W (squares (row_by_at m.now.rows.now m.now.list.now k info)) (slants (row_by_at m.now.rows.now m.now.list.now k info) r) h.old g.old h.new g.new }
+    ensures { Added W (squares (row_by_at m.now.rows.now m.now.list.now k info)) (slants (row_by_at m.now.rows.now m.now.list.now k info) r) u.old.block u.old.vector u.new.block u.new.vector }
 {
     let row = match_rows::row_at::<W>(m.list, k, m.rows, info);
-    add_row(&row, r, h, g);
+    add_row(&row, r, u);
 }
 
 // Adds the matches of a batch, and gives the cost with their squared residuals.
-fn add_batch<const W: usize>(
-    m: &Listed,
-    b: &Batch,
-    h: &mut [f64; 81],
-    g: &mut [f64; 9],
-    cost: f64,
-) -> f64
+fn add_batch<const W: usize>(m: &Listed, b: &Batch, u: &mut Upper, cost: f64) -> f64
     requires { ((b.now.from + b.now.size) * MATCH ≤ length m.now.list.now) × (b.now.size ≤ 16) × (W ≤ 9) }
-    ensures { (result ≡ sum_from cost b.now.size (batch_cost b.now.residuals)) × Summed W b.now.size (batch_block m.now.rows.now m.now.list.now b.now.from b.now.infos) (batch_vector m.now.rows.now m.now.list.now b.now.from b.now.infos b.now.residuals) h.old g.old h.new g.new }
+    ensures { (result ≡ sum_from cost b.now.size (batch_cost b.now.residuals)) × Summed W b.now.size (batch_block m.now.rows.now m.now.list.now b.now.from b.now.infos) (batch_vector m.now.rows.now m.now.list.now b.now.from b.now.infos b.now.residuals) u.old.block u.old.vector u.new.block u.new.vector }
 {
     let mut sum = cost;
     for k in 0..b.size {
         let r = b.residuals[k];
-        add_match::<W>(m, b.from + k, b.infos[k], r, h, g);
+        add_match::<W>(m, b.from + k, b.infos[k], r, u);
         sum = sum + r * r;
     }
     sum
 }
 
 // The same with the first `dof` numbers of each row: a copy of the code for each width.
-fn add_batch_by(
-    m: &Listed,
-    b: &Batch,
-    dof: usize,
-    h: &mut [f64; 81],
-    g: &mut [f64; 9],
-    cost: f64,
-) -> f64
+fn add_batch_by(m: &Listed, b: &Batch, dof: usize, u: &mut Upper, cost: f64) -> f64
     requires { ((b.now.from + b.now.size) * MATCH ≤ length m.now.list.now) × (b.now.size ≤ 16) × (dof ≤ 9) }
-    ensures { (result ≡ sum_from cost b.now.size (batch_cost b.now.residuals)) × Summed dof b.now.size (batch_block m.now.rows.now m.now.list.now b.now.from b.now.infos) (batch_vector m.now.rows.now m.now.list.now b.now.from b.now.infos b.now.residuals) h.old g.old h.new g.new }
+    ensures { (result ≡ sum_from cost b.now.size (batch_cost b.now.residuals)) × Summed dof b.now.size (batch_block m.now.rows.now m.now.list.now b.now.from b.now.infos) (batch_vector m.now.rows.now m.now.list.now b.now.from b.now.infos b.now.residuals) u.old.block u.old.vector u.new.block u.new.vector }
 {
     match dof {
-        0 => add_batch::<0>(m, b, h, g, cost),
-        1 => add_batch::<1>(m, b, h, g, cost),
-        2 => add_batch::<2>(m, b, h, g, cost),
-        3 => add_batch::<3>(m, b, h, g, cost),
-        4 => add_batch::<4>(m, b, h, g, cost),
-        5 => add_batch::<5>(m, b, h, g, cost),
-        6 => add_batch::<6>(m, b, h, g, cost),
-        7 => add_batch::<7>(m, b, h, g, cost),
-        8 => add_batch::<8>(m, b, h, g, cost),
-        9 => add_batch::<9>(m, b, h, g, cost),
+        0 => add_batch::<0>(m, b, u, cost),
+        1 => add_batch::<1>(m, b, u, cost),
+        2 => add_batch::<2>(m, b, u, cost),
+        3 => add_batch::<3>(m, b, u, cost),
+        4 => add_batch::<4>(m, b, u, cost),
+        5 => add_batch::<5>(m, b, u, cost),
+        6 => add_batch::<6>(m, b, u, cost),
+        7 => add_batch::<7>(m, b, u, cost),
+        8 => add_batch::<8>(m, b, u, cost),
+        9 => add_batch::<9>(m, b, u, cost),
         _ => unreachable!(),
     }
 }
 
 // Adds `size` matches from `from` on, batch after batch, and gives the sum of their squared residuals.
-fn add_group(
-    m: &Listed,
-    from: usize,
-    size: usize,
-    dof: usize,
-    h: &mut [f64; 81],
-    g: &mut [f64; 9],
-) -> f64
+fn add_group(m: &Listed, from: usize, size: usize, dof: usize, u: &mut Upper) -> f64
     requires { ((from + size) * MATCH ≤ length m.now.list.now) × (dof ≤ 9) }
-    ensures { (result ≡ sum_from zero_f size (λ k. cost_term m.now.action.now m.now.list.now (from + k))) × Summed dof size (λ i j k. block_term m.now.action.now m.now.list.now i j (from + k)) (λ i k. vector_term m.now.action.now m.now.list.now i (from + k)) h.old g.old h.new g.new }
+    ensures { (result ≡ sum_from zero_f size (λ k. cost_term m.now.action.now m.now.list.now (from + k))) × Summed dof size (λ i j k. block_term m.now.action.now m.now.list.now i j (from + k)) (λ i k. vector_term m.now.action.now m.now.list.now i (from + k)) u.old.block u.old.vector u.new.block u.new.vector }
 {
     let mut cost = 0.0;
     for i in (0..size).step_by(BATCH) {
         let b = Batch::of(m, from + i, lists::batch_size(size, i, BATCH));
-        cost = add_batch_by(m, &b, dof, h, g, cost);
+        cost = add_batch_by(m, &b, dof, u, cost);
     }
     cost
 }
@@ -203,31 +183,33 @@ fn group_size(n: usize, q: usize) -> usize
     n - from
 }
 
-// Sums group q from +0, adds its sums to h and g, and gives its cost.
-fn add_group_sums(m: &Listed, q: usize, dof: usize, h: &mut [f64; 81], g: &mut [f64; 9]) -> f64
+// Sums group q from +0, adds its sums to u, and gives its cost.
+fn add_group_sums(m: &Listed, q: usize, dof: usize, u: &mut Upper) -> f64
     requires { (q * GROUP < match_count m.now.list.now) × (dof ≤ 9) }
-    ensures { (result ≡ group_sum (match_count m.now.list.now) (cost_term m.now.action.now m.now.list.now) q) × Added dof (λ i j. group_sum (match_count m.now.list.now) (block_term m.now.action.now m.now.list.now i j) q) (λ i. group_sum (match_count m.now.list.now) (vector_term m.now.action.now m.now.list.now i) q) h.old g.old h.new g.new }
+    ensures { (result ≡ group_sum (match_count m.now.list.now) (cost_term m.now.action.now m.now.list.now) q) × Added dof (λ i j. group_sum (match_count m.now.list.now) (block_term m.now.action.now m.now.list.now i j) q) (λ i. group_sum (match_count m.now.list.now) (vector_term m.now.action.now m.now.list.now i) q) u.old.block u.old.vector u.new.block u.new.vector }
 {
     let n = m.list.len() / MATCH;
     let size = group_size(n, q);
     let from = q * GROUP;
-    let mut sums = [0.0; 81];
-    let mut slopes = [0.0; 9];
-    let cost = add_group(m, from, size, dof, &mut sums, &mut slopes);
-    add_numbers(&sums, h);
-    add_numbers(&slopes, g);
+    let mut sums = Upper {
+        block: [0.0; 81],
+        vector: [0.0; 9],
+    };
+    let cost = add_group(m, from, size, dof, &mut sums);
+    add_numbers(&sums.block, &mut u.block);
+    add_numbers(&sums.vector, &mut u.vector);
     cost
 }
 
 // The groups' sums, summed in order.
-fn add_groups(m: &Listed, dof: usize, h: &mut [f64; 81], g: &mut [f64; 9]) -> f64
+fn add_groups(m: &Listed, dof: usize, u: &mut Upper) -> f64
     requires { dof ≤ 9 }
-    ensures { (result ≡ list_cost m.now.action.now m.now.list.now) × Summed dof (groups (match_count m.now.list.now)) (λ i j. group_sum (match_count m.now.list.now) (block_term m.now.action.now m.now.list.now i j)) (λ i. group_sum (match_count m.now.list.now) (vector_term m.now.action.now m.now.list.now i)) h.old g.old h.new g.new }
+    ensures { (result ≡ list_cost m.now.action.now m.now.list.now) × Summed dof (groups (match_count m.now.list.now)) (λ i j. group_sum (match_count m.now.list.now) (block_term m.now.action.now m.now.list.now i j)) (λ i. group_sum (match_count m.now.list.now) (vector_term m.now.action.now m.now.list.now i)) u.old.block u.old.vector u.new.block u.new.vector }
 {
     let n = m.list.len() / MATCH;
     let mut cost = 0.0;
     for q in 0..group_count(n) {
-        cost = cost + add_group_sums(m, q, dof, h, g);
+        cost = cost + add_group_sums(m, q, dof, u);
     }
     cost
 }
@@ -270,19 +252,21 @@ pub fn match_sums(list: &[f64], x: &[f64], dof: usize) -> MatchSums
     ensures { SumsAre x.now list.now dof result }
 {
     let t = match_rows::by_rows(x);
-    let mut upper = [0.0; 81];
-    let mut vector = [0.0; 9];
+    let mut upper = Upper {
+        block: [0.0; 81],
+        vector: [0.0; 9],
+    };
     let m = Listed {
         list,
         action: x,
         rows: &t,
     };
-    let cost = add_groups(&m, dof, &mut upper, &mut vector);
-    let block = mirrored(&upper);
+    let cost = add_groups(&m, dof, &mut upper);
+    let block = mirrored(&upper.block);
     MatchSums {
         cost,
         block,
-        vector,
+        vector: upper.vector,
     }
 }
 

@@ -7,4 +7,4 @@ use Rattle.match_sums.proofs.add_batch.Given as goal
 
 abbrev pub invariant-loop-k : goal.invariant-loop-k
 invariant-loop-k g l =
-    (length l.h ≡ 81) × (length l.g ≡ 9) × (l.sum ≡ sum_from l.cost l.k (batch_cost l.b.residuals)) × Summed g.row.W l.k (batch_block l.m.rows.now l.m.list.now l.b.from l.b.infos) (batch_vector l.m.rows.now l.m.list.now l.b.from l.b.infos l.b.residuals) l.initial.h l.initial.g l.h l.g
+    (length l.u.block ≡ 81) × (length l.u.vector ≡ 9) × (l.sum ≡ sum_from l.cost l.k (batch_cost l.b.residuals)) × Summed g.row.W l.k (batch_block l.m.rows.now l.m.list.now l.b.from l.b.infos) (batch_vector l.m.rows.now l.m.list.now l.b.from l.b.infos l.b.residuals) l.initial.u.block l.initial.u.vector l.u.block l.u.vector

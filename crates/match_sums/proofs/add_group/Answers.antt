@@ -22,7 +22,7 @@ add_batch_by-cost-requires c =
 -- the matches of one batch more
 added : (c : After-add_batch_by-cost) → let at = c.loop-i in let a = c.args in let n = c.batch_size.result in
     (c.add_batch_by-cost.result ≡ sum_from zero_f (at.i + n) (λ k. cost_term a.m.now.action.now a.m.now.list.now (a.from + k)))
-    × Summed a.dof (at.i + n) (λ i j k. block_term a.m.now.action.now a.m.now.list.now i j (a.from + k)) (λ i k. vector_term a.m.now.action.now a.m.now.list.now i (a.from + k)) a.h.now a.g.now c.add_batch_by-cost.new.h c.add_batch_by-cost.new.g
+    × Summed a.dof (at.i + n) (λ i j k. block_term a.m.now.action.now a.m.now.list.now i j (a.from + k)) (λ i k. vector_term a.m.now.action.now a.m.now.list.now i (a.from + k)) a.u.now.block a.u.now.vector c.add_batch_by-cost.new.u.block c.add_batch_by-cost.new.u.vector
 added c =
     let at = c.loop-i in
     let a = c.args in

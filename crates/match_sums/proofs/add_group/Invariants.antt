@@ -8,7 +8,7 @@ use Rattle.match_sums.proofs.add_group.Given as goal
 
 abbrev pub invariant-loop-i : goal.invariant-loop-i
 invariant-loop-i l =
-    (l.i ≤ l.size) × (length l.h ≡ 81) × (length l.g ≡ 9) × (l.cost ≡ sum_from zero_f l.i (λ k. cost_term l.m.action.now l.m.list.now (l.from + k))) × Summed l.dof l.i (λ i j k. block_term l.m.action.now l.m.list.now i j (l.from + k)) (λ i k. vector_term l.m.action.now l.m.list.now i (l.from + k)) l.initial.h l.initial.g l.h l.g
+    (l.i ≤ l.size) × (length l.u.block ≡ 81) × (length l.u.vector ≡ 9) × (l.cost ≡ sum_from zero_f l.i (λ k. cost_term l.m.action.now l.m.list.now (l.from + k))) × Summed l.dof l.i (λ i j k. block_term l.m.action.now l.m.list.now i j (l.from + k)) (λ i k. vector_term l.m.action.now l.m.list.now i (l.from + k)) l.initial.u.block l.initial.u.vector l.u.block l.u.vector
 
 abbrev pub decreases-loop-i : goal.decreases-loop-i
 decreases-loop-i l = l.size - l.i

@@ -7,4 +7,4 @@ use Rattle.match_sums.proofs.add_groups.Given as goal
 
 abbrev pub invariant-loop-q : goal.invariant-loop-q
 invariant-loop-q l =
-    (length l.h ≡ 81) × (length l.g ≡ 9) × (l.cost ≡ sum_from zero_f l.q (group_sum (match_count l.m.list.now) (cost_term l.m.action.now l.m.list.now))) × Summed l.dof l.q (λ i j. group_sum (match_count l.m.list.now) (block_term l.m.action.now l.m.list.now i j)) (λ i. group_sum (match_count l.m.list.now) (vector_term l.m.action.now l.m.list.now i)) l.initial.h l.initial.g l.h l.g
+    (length l.u.block ≡ 81) × (length l.u.vector ≡ 9) × (l.cost ≡ sum_from zero_f l.q (group_sum (match_count l.m.list.now) (cost_term l.m.action.now l.m.list.now))) × Summed l.dof l.q (λ i j. group_sum (match_count l.m.list.now) (block_term l.m.action.now l.m.list.now i j)) (λ i. group_sum (match_count l.m.list.now) (vector_term l.m.action.now l.m.list.now i)) l.initial.u.block l.initial.u.vector l.u.block l.u.vector

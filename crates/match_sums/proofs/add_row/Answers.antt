@@ -14,8 +14,8 @@ pub loop-c-preserved : goal.loop-c-preserved
 loop-c-preserved g c =
     let at = c.loop-c in
     let a = c.args in
-    let up = upper_more at.c (λ i. a.row.now ! i) _ at.h _ (omega arith) at.invariant.2 c.add_column.ensures in
-    (omega (arith, c.add_column.ensures.size), search rules, up, raised_at at.c (λ i. a.row.now ! i ⊗ a.r) _ at.g _ (omega arith) refl at.invariant.3)
+    let up = upper_more at.c (λ i. a.row.now ! i) _ at.u.block _ (omega arith) at.invariant.2 c.add_column.ensures in
+    (omega (arith, c.add_column.ensures.size), search rules, up, raised_at at.c (λ i. a.row.now ! i ⊗ a.r) _ at.u.vector _ (omega arith) refl at.invariant.3)
 
 pub returns : goal.returns
 returns g c =
