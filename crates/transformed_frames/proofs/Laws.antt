@@ -5,27 +5,25 @@ use native.Mathlib.Nat.{sub_self}
 use native.Mathlib.Omega.{arith}
 use mathlib.Core.Path.{◌≡◌, refl, sym, ap, ◌∙◌}
 use mathlib.Core.Bool.{false}
-use mathlib.Core.List.{List, [], ◌∷◌}
+use mathlib.Core.List.{List}
 use lib.ListN.{length}
 use lib.Ieee.{Float}
 use Rattle.sums.specs.Sum.{◌⊕◌, zero_f, sum_from_zero}
 use Rattle.terms.specs.Terms.{add_all}
 use Rattle.terms.proofs.Laws.{block_same, segment-same}
-use Rattle.normal_blocks.specs.declared.Place.{Place}
-use Rattle.normal_blocks.specs.declared.Place.TheVariants.{At, Unmapped}
+use Rattle.std.specs.Prelude.{Option, Some, None}
 use Rattle.normal_blocks.specs.Map.{lookup, exceeds}
 use Rattle.normal_blocks.proofs.Laws.{lookup-past, fits}
 use Rattle.normal_blocks.specs.TargetLaws.{hessian_mapped, gradient_mapped, hessian_unmapped, gradient_unmapped}
 use Rattle.call_lists.specs.Accumulated.{Accumulated}
-use Rattle.block_transforms.specs.Transform.{Beside, ROOM, shape_at, entry_from, block_under, vector_under, width_under, width_at}
+use Rattle.block_transforms.specs.Transform.{Beside, ROOM, sized, shape_at, entry_from, block_under, vector_under, width_under, width_at}
 use Rattle.block_transforms.proofs.Laws.{transform_fits, every_fits, transform_there}
 use Rattle.block_transforms.specs.declared.Shape.{Shape}
-use Rattle.block_transforms.specs.declared.Shape.TheVariants.{Absent, Sized}
 use Rattle.transform_products.specs.Rows.{rows_of, spaced, AddedRows, AddedThrough}
 use Rattle.transform_products.proofs.Laws.{Tall, under_same, under_run}
 use Rattle.point_moments.specs.declared.scatter.Centred.{Centred}
 use Rattle.plane_fit.specs.Fit.{frame_count, frame_at, action_at, and_fixed}
-use Rattle.plane_fit.specs.declared.axis.Fit.TheVariants.{Plane}
+use Rattle.plane.specs.declared.Plane.{Plane}
 use Rattle.frame_segment.specs.Frame.{block_entry, pulled_entry}
 use Rattle.frame_segment.specs.Steps.{Added, Held}
 use Rattle.frame_stored.specs.Stored.{FrameStored}
@@ -39,14 +37,14 @@ use Rattle.plane_moments.proofs.Accumulating.{accepted_call, plane_call}
 use Rattle.transformed_frames.specs.Frames.{through_under, There, Ready, FrameAdded, frames_from, Continued, Summed, AllAdded}
 
 -- ---- stored numbers at row `at`, without a transform and with one
-module _ (order at dof stride : ℕ) (s : Shape) (t : List Float) (from : ℕ) (m h h' g g' : List Float) where
+module _ (order at dof stride : ℕ) (s : Option Shape) (t : List Float) (from : ℕ) (m h h' g g' : List Float) where
   abbrev StoredAdded : Type 0
   StoredAdded = Added order at (width_under s dof) (block_under s (entry_from t from) (rows_of stride m)) (vector_under s (entry_from t from) (spaced stride m dof)) h h' g g'
 
-  pub rows_added : s ≡ Absent → AddedRows order at dof stride m h h' g g' → StoredAdded
+  pub rows_added : s ≡ None → AddedRows order at dof stride m h h' g g' → StoredAdded
   rows_added q a = rw q (record { hessian = a.hessian; gradient = a.gradient })
 
-  pub through_added : (rows cols : ℕ) (u : List Float) → s ≡ Sized rows cols → rows ≡ dof → AddedThrough order at rows cols stride t from m u h h' g g' → StoredAdded
+  pub through_added : (rows cols : ℕ) (u : List Float) → s ≡ sized rows cols → rows ≡ dof → AddedThrough order at rows cols stride t from m u h h' g g' → StoredAdded
   through_added rows cols u q tall a = rw (q, sym tall) (record { hessian = a.hessian; gradient = a.gradient })
 
   -- and they are a frame's
@@ -58,14 +56,14 @@ module _ (order at dof stride : ℕ) (s : Shape) (t : List Float) (from : ℕ) (
   }
 
 -- ---- a frame at an offset, and one that goes nowhere
-module _ (order dof : ℕ) (s : Shape) (t : ℕ → ℕ → ℕ → Float) (p : Place) (e : ℕ → ℕ → Float) (v : ℕ → Float) (h h' g g' : List Float) where
-  pub frame_mapped : (at : ℕ) → p ≡ At at → Added order at (width_under s dof) (block_under s t e) (vector_under s t v) h h' g g' → FrameAdded order dof s t p e v h h' g g'
+module _ (order dof : ℕ) (s : Option Shape) (t : ℕ → ℕ → ℕ → Float) (p : Option ℕ) (e : ℕ → ℕ → Float) (v : ℕ → Float) (h h' g g' : List Float) where
+  pub frame_mapped : (at : ℕ) → p ≡ Some at → Added order at (width_under s dof) (block_under s t e) (vector_under s t v) h h' g g' → FrameAdded order dof s t p e v h h' g g'
   frame_mapped at mapped a = record {
     hessian = hessian_mapped (width_under s dof) p at mapped order (block_under s t e) h h' a.hessian;
     gradient = gradient_mapped (width_under s dof) p at mapped (vector_under s t v) g g' a.gradient;
   }
 
-pub frame_unmapped : (order dof : ℕ) (s : Shape) (t : ℕ → ℕ → ℕ → Float) (p : Place) (e : ℕ → ℕ → Float) (v : ℕ → Float) (h g : List Float) → p ≡ Unmapped → FrameAdded order dof s t p e v h h g g
+pub frame_unmapped : (order dof : ℕ) (s : Option Shape) (t : ℕ → ℕ → ℕ → Float) (p : Option ℕ) (e : ℕ → ℕ → Float) (v : ℕ → Float) (h g : List Float) → p ≡ None → FrameAdded order dof s t p e v h h g g
 frame_unmapped order dof s t p e v h g nowhere = record {
   hessian = hessian_unmapped (width_under s dof) p nowhere order (block_under s t e) h;
   gradient = gradient_unmapped (width_under s dof) p nowhere (vector_under s t v) g;
@@ -73,11 +71,11 @@ frame_unmapped order dof s t p e v h g nowhere = record {
 
 -- ---- what a call that is ready has at each frame
 module _ (cells order dof : ℕ) (frames actions : List Float) (map shapes : List ℕ) (transforms : List Float) (ready : Ready cells order dof frames actions map shapes transforms) where
-  pub ready_fits : (rows k : ℕ) (p : Place) (s : Shape) → rows ≡ order → p ≡ lookup map k → s ≡ shape_at shapes k → k < frame_count frames → exceeds rows (width_under s dof) p ≡ false
+  pub ready_fits : (rows k : ℕ) (p : Option ℕ) (s : Option Shape) → rows ≡ order → p ≡ lookup map k → s ≡ shape_at shapes k → k < frame_count frames → exceeds rows (width_under s dof) p ≡ false
   unfolding width_at
   ready_fits rows k p s e at sh l = rw (e, at, sh) (fits order (width_at (shape_at shapes) dof) (lookup map) (frame_count frames) ready.fits k l)
 
-  pub ready_there : (k : ℕ) (s : Shape) → s ≡ shape_at shapes k → There dof k s transforms
+  pub ready_there : (k : ℕ) (s : Option Shape) → s ≡ shape_at shapes k → There dof k s transforms
   ready_there k s e = rw e (ready.there k)
 
   pub ready_held : (k : ℕ) → k < frame_count frames → Held frames actions k
@@ -91,7 +89,7 @@ module _ (order dof : ℕ) (frames actions : List Float) (map shapes : List ℕ)
   pub continued_none : Continued order dof frames actions map shapes transforms n offset weight from from start start h₀ h₀ g₀ g₀
   continued_none = rw (sub_self from) (first-none order _ _ start h₀ g₀)
 
-  continued_at : (j rows : ℕ) (p : Place) (s : Shape) (q : Pull) (sum : Float) (h h' g g' : List Float) → rows ≡ order → p ≡ lookup map (from + j) → s ≡ shape_at shapes (from + j)
+  continued_at : (j rows : ℕ) (p : Option ℕ) (s : Option Shape) (q : Pull) (sum : Float) (h h' g g' : List Float) → rows ≡ order → p ≡ lookup map (from + j) → s ≡ shape_at shapes (from + j)
       → q ≡ pull_at frames actions n offset weight (from + j)
       → FrameAdded rows dof s (entry_from transforms (ROOM * (from + j))) p (block_entry (action_at actions (from + j)) (frame_at frames (from + j)) n weight) (pulled_entry (action_at actions (from + j)) (frame_at frames (from + j)) n q.turn q.shift weight) h h' g g'
       → FirstAdded order (frames_from from (through_under dof frames actions map shapes transforms n offset weight)) (λ k. cost_at frames actions n offset weight (from + k)) j start sum h₀ h g₀ g
@@ -101,7 +99,7 @@ module _ (order dof : ℕ) (frames actions : List Float) (map shapes : List ℕ)
       first_more order (frames_from from (through_under dof frames actions map shapes transforms n offset weight)) _ j p _ _ q.cost start sum h₀ h h' g₀ g g' ep (λ i j li lj. refl) (λ i li. refl) (ap (λ (o : Pull). o.cost) eq)
       (rw (el, es) at a.hessian) (rw (es, eq) at a.gradient) before
 
-  pub continued_more : (k rows : ℕ) (p : Place) (s : Shape) (q : Pull) (sum : Float) (h h' g g' : List Float) → from ≤ k → rows ≡ order → p ≡ lookup map k → s ≡ shape_at shapes k
+  pub continued_more : (k rows : ℕ) (p : Option ℕ) (s : Option Shape) (q : Pull) (sum : Float) (h h' g g' : List Float) → from ≤ k → rows ≡ order → p ≡ lookup map k → s ≡ shape_at shapes k
       → q ≡ pull_at frames actions n offset weight k
       → FrameAdded rows dof s (entry_from transforms (ROOM * k)) p (block_entry (action_at actions k) (frame_at frames k) n weight) (pulled_entry (action_at actions k) (frame_at frames k) n q.turn q.shift weight) h h' g g'
       → Continued order dof frames actions map shapes transforms n offset weight from k start sum h₀ h g₀ g
@@ -117,7 +115,7 @@ module _ (order dof : ℕ) (frames actions : List Float) (map shapes : List ℕ)
   unmapped zero h g e = first-none order _ _ zero_f h g
   unmapped (suc k) h g e =
       let all = through_under dof frames actions map shapes transforms n offset weight in
-      let nowhere : lookup map k ≡ Unmapped = sym (lookup-past map k (omega arith)) in
+      let nowhere : lookup map k ≡ None = sym (lookup-past map k (omega arith)) in
       rw (add-one k) at (first_more order all _ k (lookup map k) (all.block k) (all.vector k) _ zero_f _ h h h g g g refl (λ i j li lj. refl) (λ i li. refl) refl
       (hessian_unmapped (all.layout.width k) (lookup map k) nowhere order (all.block k) h) (gradient_unmapped (all.layout.width k) (lookup map k) nowhere (all.vector k) g) (unmapped k h g e))
 
@@ -137,16 +135,16 @@ ready_call m n b e =
       square = a.square;
       acted = a.acted;
       fits = a.last.fits;
-      there = λ k rows cols sized.
-          let p = transform_there words b.shapes (length b.transforms) k rows cols a.slices sized in
-          let f = transform_fits dof rows cols (shape_at b.shapes k) sized (every_fits dof (shape_at b.shapes) words a.last.fitting k p.0) in
+      there = λ k rows cols is.
+          let p = transform_there words b.shapes (length b.transforms) k rows cols a.slices is in
+          let f = transform_fits dof rows cols (shape_at b.shapes k) is (every_fits dof (shape_at b.shapes) words a.last.fitting k p.0) in
           (f.narrow, f.tall, p.1);
     }
 
-pub all_call : (h g : List Float) (x : Float) (b : Beside FramesWork) (u v w offset weight r : Float) (h' g' : List Float) → transformed_frames_refusal (length h) (length g) b ≡ 0
-    → fit_of b.work ≡ Plane u v w offset → weight ≡ weight_of b.work.sigma
-    → AllAdded (length g) b.work.dof b.work.frames b.work.fixed b.work.actions b.work.map b.shapes b.transforms (u ∷ v ∷ w ∷ []) offset weight r h h' g g'
+pub all_call : (h g : List Float) (x : Float) (b : Beside FramesWork) (p : Plane) (weight r : Float) (h' g' : List Float) → transformed_frames_refusal (length h) (length g) b ≡ 0
+    → fit_of b.work ≡ Some p → weight ≡ weight_of b.work.sigma
+    → AllAdded (length g) b.work.dof b.work.frames b.work.fixed b.work.actions b.work.map b.shapes b.transforms p.normal p.offset weight r h h' g g'
     → Accumulated (transformed_frames_call (length h) (length g) b) h g x 0 h' g' r
-all_call h g x b u v w offset weight r h' g' e found weighed added =
-    let all : AllAdded (length g) b.work.dof b.work.frames b.work.fixed b.work.actions b.work.map b.shapes b.transforms (u ∷ v ∷ w ∷ []) offset (weight_of b.work.sigma) r h h' g g' = rw weighed at added in
-    plane_call h g x b e u v w offset r h' g' found all.cost all.hessian all.gradient
+all_call h g x b p weight r h' g' e found weighed added =
+    let all : AllAdded (length g) b.work.dof b.work.frames b.work.fixed b.work.actions b.work.map b.shapes b.transforms p.normal p.offset (weight_of b.work.sigma) r h h' g g' = rw weighed at added in
+    plane_call h g x b e p r h' g' found all.cost all.hessian all.gradient

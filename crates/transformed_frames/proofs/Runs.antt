@@ -14,9 +14,9 @@ use Rattle.sums.specs.Sum.{zero_f}
 use Rattle.normal_blocks.specs.Map.{lookup, exceeds}
 use Rattle.normal_blocks.proofs.Laws.{fits}
 use Rattle.call_lists.specs.Frames.{Frames, frame_hessian, frame_gradient}
-use Rattle.block_transforms.specs.Transform.{ROOM, shape_at, width_under, width_at}
+use Rattle.block_transforms.specs.Transform.{ROOM, sized, shape_at, width_under, width_at}
 use Rattle.block_transforms.specs.declared.Shape.{Shape}
-use Rattle.block_transforms.specs.declared.Shape.TheVariants.{Absent, Sized}
+use Rattle.std.specs.Prelude.{Option, None}
 use Rattle.derivative.specs.Action.{action_size}
 use Rattle.point_moments.specs.Scatter.{CENTRED}
 use Rattle.plane_fit.specs.Fit.{frame_count}
@@ -33,7 +33,7 @@ use Rattle.transformed_frames.specs.Frames.{through_under, Ready, Alike, RunRead
 pub alike_one : (shapes : List ℕ) (from : ℕ) → Alike shapes from (from + 1)
 alike_one shapes from k a b = ap (shape_at shapes) (omega arith)
 
-pub alike_more : (shapes : List ℕ) (from to : ℕ) (s t : Shape) → s ≡ shape_at shapes from → t ≡ shape_at shapes to → t ≡ s → Alike shapes from to → Alike shapes from (to + 1)
+pub alike_more : (shapes : List ℕ) (from to : ℕ) (s t : Option Shape) → s ≡ shape_at shapes from → t ≡ shape_at shapes to → t ≡ s → Alike shapes from to → Alike shapes from (to + 1)
 alike_more shapes from to s t es et e before k a b = go (ltb k to) refl
   where
     go : (i : Bool) → ltb k to ≡ i → shape_at shapes k ≡ shape_at shapes from
@@ -72,8 +72,8 @@ continued_by order all batch costs costs' from size s r h h' g g' same added =
     (record { hessian = λ k l. rw (zero-add k) (same.hessian k l); gradient = λ k l. rw (zero-add k) (same.gradient k l); cost = λ k l. rw (zero-add k) (same.cost k l) }) added (first-none order (frames_from from all) (λ k. costs (from + k)) s h g))
 
 -- a shape whose rows and columns were tested
-pub shape_is : (s : Shape) (rows cols r c : ℕ) → s ≡ Sized rows cols → rows ≡ r → cols ≡ c → s ≡ Sized r c
-shape_is s rows cols r c e er ec = e ∙ ap₂ Sized er ec
+pub shape_is : (s : Option Shape) (rows cols r c : ℕ) → s ≡ sized rows cols → rows ≡ r → cols ≡ c → s ≡ sized r c
+shape_is s rows cols r c e er ec = e ∙ ap₂ sized er ec
 
 pub is_five : (cols : ℕ) → (cols ≡ 3) ⊎ (cols ≡ 5) → (cols ≡ 3 → ⊥) → cols ≡ 5
 is_five cols p other = ⊎_elim (λ e. absurd (other e)) (λ e. e) p
@@ -106,7 +106,7 @@ module _ (cells order dof : ℕ) (frames actions : List Float) (map shapes : Lis
   acted_in = rw (length-drop (action_size * from) actions) (omega (arith, run.held, run.some, run.ready.acted))
 
   -- ---- without transforms
-  module _ (none : shape_at shapes from ≡ Absent) (place : ℕ) (from-there : drop place map ≡ drop from map) where
+  module _ (none : shape_at shapes from ≡ None) (place : ℕ) (from-there : drop place map ≡ drop from map) where
     pub plain_ready : plain.RunReady cells order dof (onward (CENTRED * from) frames) (onward (action_size * from) actions) (onward place map) (to - from)
     plain_ready = rw (rest (CENTRED * from) frames, rest (action_size * from) actions, rest place map, from-there) (record {
       narrow = run.ready.narrow;
@@ -131,10 +131,10 @@ module _ (cells order dof : ℕ) (frames actions : List Float) (map shapes : Lis
           continued_by order _ _ _ _ from (to - from) s r h h' g g' plain_continues (rw (rest (CENTRED * from) frames, rest (action_size * from) actions, rest place map, from-there) at added)
 
   -- ---- through transforms of six rows
-  module _ (cols : ℕ) (sized : shape_at shapes from ≡ Sized 6 cols) (place : ℕ) (from-there : drop place map ≡ drop from map) where
+  module _ (cols : ℕ) (tall : shape_at shapes from ≡ sized 6 cols) (place : ℕ) (from-there : drop place map ≡ drop from map) where
     there_in : ROOM * (to - from) ≤ length (drop (ROOM * from) transforms)
     there_in =
-        let last : shape_at shapes (to - 1) ≡ Sized 6 cols = run.alike (to - 1) (omega (arith, run.some)) (omega (arith, run.some)) ∙ sized in
+        let last : shape_at shapes (to - 1) ≡ sized 6 cols = run.alike (to - 1) (omega (arith, run.some)) (omega (arith, run.some)) ∙ tall in
         rw (length-drop (ROOM * from) transforms) (omega (arith, run.some, (run.ready.there (to - 1) 6 cols last).2))
 
     pub sized_ready : pairs.RunReady cells order cols (onward (CENTRED * from) frames) (onward (action_size * from) actions) (onward place map) (onward (ROOM * from) transforms) (to - from)
@@ -143,15 +143,15 @@ module _ (cells order dof : ℕ) (frames actions : List Float) (map shapes : Lis
       framed = framed_in;
       acted = acted_in;
       there = there_in;
-      fits = λ k l. rw sized at (fits_in k l);
+      fits = λ k l. rw tall at (fits_in k l);
     })
 
     module _ (n : List Float) (offset weight : Float) where
       sized_continues : Continues order (through_under dof frames actions map shapes transforms n offset weight) (through_by cols (drop (CENTRED * from) frames) (drop (action_size * from) actions) (drop from map) (drop (ROOM * from) transforms) n offset weight) (cost_at frames actions n offset weight) (cost_at (drop (CENTRED * from) frames) (drop (action_size * from) actions) n offset weight) from (to - from)
       unfolding frame_hessian frame_gradient cost_at width_at
       sized_continues = record {
-        hessian = λ k l. rw (shape_in k l, sized, entry_from_lem transforms from k, frame_from frames from k, action_from actions from k, lookup_from map from k);
-        gradient = λ k l. rw (shape_in k l, sized, entry_from_lem transforms from k, frame_from frames from k, action_from actions from k, lookup_from map from k);
+        hessian = λ k l. rw (shape_in k l, tall, entry_from_lem transforms from k, frame_from frames from k, action_from actions from k, lookup_from map from k);
+        gradient = λ k l. rw (shape_in k l, tall, entry_from_lem transforms from k, frame_from frames from k, action_from actions from k, lookup_from map from k);
         cost = λ k l. rw (frame_from frames from k, action_from actions from k);
       }
 

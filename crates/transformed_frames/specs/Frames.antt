@@ -1,15 +1,13 @@
 -- The frames of a call, each added through the transform of its word: what the work may rely on, and what it leaves. Definitions only.
-use Rattle.std.specs.Prelude.{ℕ, ◌+◌, ◌-◌, ◌*◌, ◌≤◌, ◌<◌, ◌≡◌, false, List, length, Float}
+use Rattle.std.specs.Prelude.{ℕ, ◌+◌, ◌-◌, ◌*◌, ◌≤◌, ◌<◌, ◌≡◌, false, List, length, Option, Float}
 use Rattle.sums.specs.Sum.{zero_f}
 use Rattle.terms.specs.Terms.{add_all}
-use Rattle.normal_blocks.specs.declared.Place.{Place}
 use Rattle.normal_blocks.specs.Map.{lookup, some_exceeds}
 use Rattle.normal_blocks.specs.Target.{hessian_at, gradient_at}
 use Rattle.call_lists.specs.Frames.{Frames}
-use Rattle.block_transforms.specs.Transform.{ROOM, shape_at, block_under, vector_under, width_under, width_at, through}
+use Rattle.block_transforms.specs.Transform.{ROOM, sized, shape_at, block_under, vector_under, width_under, width_at, through}
 use Rattle.block_transforms.specs.Reasons.{MOST_COLUMNS}
 use Rattle.block_transforms.specs.declared.Shape.{Shape}
-use Rattle.block_transforms.specs.declared.Shape.TheVariants.{Sized}
 use Rattle.derivative.specs.Action.{action_size}
 use Rattle.plane_fit.specs.Fit.{frame_count}
 use Rattle.frame_cost.specs.Cost.{cost_at}
@@ -20,8 +18,8 @@ abbrev pub through_under : ℕ → List Float → List Float → List ℕ → Li
 through_under dof frames actions map shapes transforms n offset weight = through (shape_at shapes) transforms (frames_under dof frames actions map n offset weight)
 
 -- the transform of word k fits, and its numbers are there
-abbrev pub There : ℕ → ℕ → Shape → List Float → Type 0
-There dof k s transforms = (rows cols : ℕ) → s ≡ Sized rows cols → (cols ≤ MOST_COLUMNS) × (rows ≡ dof) × (ROOM * k + ROOM ≤ length transforms)
+abbrev pub There : ℕ → ℕ → Option Shape → List Float → Type 0
+There dof k s transforms = (rows cols : ℕ) → s ≡ sized rows cols → (cols ≤ MOST_COLUMNS) × (rows ≡ dof) × (ROOM * k + ROOM ≤ length transforms)
 
 -- what the tests of a call leave to the work
 pub record Ready (cells order dof : ℕ) (frames actions : List Float) (map shapes : List ℕ) (transforms : List Float) : Type 0 where
@@ -43,7 +41,7 @@ pub record RunReady (cells order dof : ℕ) (frames actions : List Float) (map s
   pub alike : Alike shapes from to
 
 -- one frame of block entries e and vector entries v, under a shape s with the entries t, at the place p
-pub record FrameAdded (order dof : ℕ) (s : Shape) (t : ℕ → ℕ → ℕ → Float) (p : Place) (e : ℕ → ℕ → Float) (v : ℕ → Float) (h h' g g' : List Float) : Type 0 where
+pub record FrameAdded (order dof : ℕ) (s : Option Shape) (t : ℕ → ℕ → ℕ → Float) (p : Option ℕ) (e : ℕ → ℕ → Float) (v : ℕ → Float) (h h' g g' : List Float) : Type 0 where
   pub hessian : h' ≡ add_all h (hessian_at order (width_under s dof) p (block_under s t e))
   pub gradient : g' ≡ add_all g (gradient_at (width_under s dof) p (vector_under s t v))
 

@@ -1,13 +1,14 @@
 // The host's call that accumulates frames through transforms.
 ghost use Rattle.std.specs.Prelude.{◌≡◌, length, Float};
+ghost use Rattle.refusals.specs.Number.{number};
 ghost use Rattle.call_lists.specs.Accumulated.{Accumulated};
 ghost use Rattle.plane_moments.specs.Accumulate.{work, transformed_frames_refusal, transformed_frames_call};
 
 use derivative::MOST_DOF;
-use plane_fit::axis::Fit;
 use point_moments::scatter::CENTRED;
+use refusals::Refusal;
 
-// The number of the reason to refuse, or 0.
+// Why the call is refused.
 fn refusal(
     dof: u32,
     frames: &[f64],
@@ -20,26 +21,26 @@ fn refusal(
     transforms: &[f64],
     cells: usize,
     n: usize,
-) -> u32
-    ensures { result ≡ transformed_frames_refusal cells n (record { work = work dof frames.now fixed.now sigma actions.now decomposition.now map.now; shapes = shapes.now; transforms = transforms.now }) }
+) -> Result<(), Refusal>
+    ensures { number result ≡ transformed_frames_refusal cells n (record { work = work dof frames.now fixed.now sigma actions.now decomposition.now map.now; shapes = shapes.now; transforms = transforms.now }) }
 {
     if dof > MOST_DOF {
-        return 1;
+        return Err(Refusal::DofTooLarge);
     }
     if frames.len() == 0 {
-        return 2;
+        return Err(Refusal::EmptyList);
     }
     if plane_moments::accumulate::bad_lengths(frames, fixed, decomposition, map.len(), cells, n) {
-        return 3;
+        return Err(Refusal::WrongLength);
     }
     if block_transforms::bad_beside(map.len(), shapes.len(), transforms.len()) {
-        return 3;
+        return Err(Refusal::WrongLength);
     }
     if !validate::is_positive(sigma) {
-        return 7;
+        return Err(Refusal::BadSigma);
     }
     if plane_fit::bad_actions(frames, actions) {
-        return 8;
+        return Err(Refusal::WrongActions);
     }
     block_transforms::through_refusal(map, shapes, frames.len() / CENTRED, dof as usize, n)
 }
@@ -63,7 +64,7 @@ fn add_fitted(
 {
     let mean = plane_fit::fit_mean(frames, fixed, actions);
     match plane_fit::axis::smallest_axis(decomposition, mean) {
-        Fit::Plane(a, b, c, offset) => {
+        Some(plane) => {
             let weight = frame_cost::weight(sigma);
             crate::frames::add_all(
                 hessian,
@@ -75,16 +76,15 @@ fn add_fitted(
                 map,
                 shapes,
                 transforms,
-                [a, b, c],
-                offset,
+                plane,
                 weight,
             )
         }
-        Fit::NoPlane => 0.0,
+        None => 0.0,
     }
 }
 
-// The host's call. The number of the reason to refuse, or 0.
+// The host's call.
 pub fn accumulate(
     dof: u32,
     frames: &[f64],
@@ -98,12 +98,12 @@ pub fn accumulate(
     hessian: &mut [f64],
     gradient: &mut [f64],
     cost: &mut f64,
-) -> u32
-    ensures { Accumulated (transformed_frames_call (length hessian.old) (length gradient.old) (record { work = work dof frames.now fixed.now sigma actions.now decomposition.now map.now; shapes = shapes.now; transforms = transforms.now })) hessian.old gradient.old cost.old result hessian.new gradient.new cost.new }
+) -> Result<(), Refusal>
+    ensures { Accumulated (transformed_frames_call (length hessian.old) (length gradient.old) (record { work = work dof frames.now fixed.now sigma actions.now decomposition.now map.now; shapes = shapes.now; transforms = transforms.now })) hessian.old gradient.old cost.old (number result) hessian.new gradient.new cost.new }
 {
     let m = hessian.len();
     let n = gradient.len();
-    let why = refusal(
+    refusal(
         dof,
         frames,
         fixed,
@@ -115,10 +115,7 @@ pub fn accumulate(
         transforms,
         m,
         n,
-    );
-    if why != 0 {
-        return why;
-    }
+    )?;
     *cost = add_fitted(
         dof,
         frames,
@@ -132,5 +129,5 @@ pub fn accumulate(
         hessian,
         gradient,
     );
-    0
+    Ok(())
 }

@@ -6,15 +6,14 @@ ghost use Rattle.plane_fit.specs.Fit.{frame_count, frame_at, action_at};
 ghost use Rattle.frame_segment.specs.Frame.{block_entry, pulled_entry};
 ghost use Rattle.frame_segment.specs.Steps.{Added, Held};
 ghost use Rattle.frame_blocks.specs.Pulls.{pull_at};
-ghost use Rattle.block_transforms.specs.Transform.{shape_at, entry_from, block_under, vector_under, width_under};
-ghost use Rattle.block_transforms.specs.declared.Shape.TheVariants.{Sized};
+ghost use Rattle.block_transforms.specs.Transform.{sized, shape_at, entry_from, block_under, vector_under, width_under};
 ghost use Rattle.transform_products.specs.Rows.{rows_of, spaced};
 ghost use Rattle.transformed_frames.specs.Frames.{There, Ready, Alike, RunReady, FrameAdded, Continued, Summed, AllAdded};
 
 use block_transforms::{Shape, TRANSFORM};
 use derivative::ACTION;
 use frame_cost::Pull;
-use normal_blocks::Place;
+use plane::Plane;
 use point_moments::scatter::{CENTRED, Centred};
 
 // The numbers from one row of a stored block to the next: eight of a frame of six columns, whose loops are unrolled.
@@ -35,21 +34,21 @@ fn add_stored(
     n: usize,
     at: usize,
     dof: usize,
-    s: Shape,
+    s: Option<Shape>,
     transforms: &[f64],
     k: usize,
     m: &[f64; 90],
     stride: usize,
     u: &mut [f64; 90],
 )
-    requires { (dof ≤ 9) × (stride ≤ 10) × (dof < stride) × (at + width_under s dof ≤ n) × (length h.old ≡ n * n) × (length g.old ≡ n) × (length u.old ≡ 90) × There dof k s transforms.now }
-    ensures { Added n at (width_under s dof) (block_under s (entry_from transforms.now (81 * k)) (rows_of stride m.now)) (vector_under s (entry_from transforms.now (81 * k)) (spaced stride m.now dof)) h.old h.new g.old g.new × (length u.new ≡ 90) }
+    requires { (dof ≤ 9) × (stride ≤ 10) × (dof < stride) × (at + width_under s dof ≤ n) × (length h.old ≡ n * n) × (length g.old ≡ n) × There dof k s transforms.now }
+    ensures { Added n at (width_under s dof) (block_under s (entry_from transforms.now (81 * k)) (rows_of stride m.now)) (vector_under s (entry_from transforms.now (81 * k)) (spaced stride m.now dof)) h.old h.new g.old g.new }
 {
     match s {
-        Shape::Absent => {
+        None => {
             transform_products::add_rows(h, g, n, at, m, stride, dof);
         }
-        Shape::Sized(rows, cols) => {
+        Some(shape) => {
             transform_products::add_through(
                 h,
                 g,
@@ -57,8 +56,8 @@ fn add_stored(
                 at,
                 transforms,
                 TRANSFORM * k,
-                rows,
-                cols,
+                shape.rows,
+                shape.cols,
                 m,
                 stride,
                 u,
@@ -71,9 +70,9 @@ fn add_stored(
 fn add_frame(
     h: &mut [f64],
     g: &mut [f64],
-    p: Place,
+    p: Option<usize>,
     dof: usize,
-    s: Shape,
+    s: Option<Shape>,
     frames: &[f64],
     actions: &[f64],
     k: usize,
@@ -84,54 +83,28 @@ fn add_frame(
     m: &mut [f64; 90],
     u: &mut [f64; 90],
 )
-    requires { (dof ≤ 9) × (exceeds (length g.old) (width_under s dof) p ≡ false) × (length h.old ≡ length g.old * length g.old) × Held frames.now actions.now k × There dof k s transforms.now × (length m.old ≡ 90) × (length u.old ≡ 90) }
-    ensures { FrameAdded (length g.old) dof s (entry_from transforms.now (81 * k)) p (block_entry (action_at actions.now k) (frame_at frames.now k) normal weight) (pulled_entry (action_at actions.now k) (frame_at frames.now k) normal pull.turn pull.shift weight) h.old h.new g.old g.new × (length m.new ≡ 90) × (length u.new ≡ 90) }
+    requires { (dof ≤ 9) × (exceeds (length g.old) (width_under s dof) p ≡ false) × (length h.old ≡ length g.old * length g.old) × Held frames.now actions.now k × There dof k s transforms.now }
+    ensures { FrameAdded (length g.old) dof s (entry_from transforms.now (81 * k)) p (block_entry (action_at actions.now k) (frame_at frames.now k) normal weight) (pulled_entry (action_at actions.now k) (frame_at frames.now k) normal pull.turn pull.shift weight) h.old h.new g.old g.new }
 {
     let n = g.len();
     let turn = pull.turn;
     let stride = stride_of(dof);
-    match p {
-        Place::At(at) => {
-            frame_stored::store(
-                frames, actions, k, normal, turn, pull.shift, weight, dof, stride, m,
-            );
-            add_stored(h, g, n, at, dof, s, transforms, k, m, stride, u);
-        }
-        Place::Unmapped => {}
+    if let Some(at) = p {
+        frame_stored::store(
+            frames, actions, k, normal, turn, pull.shift, weight, dof, stride, m,
+        );
+        add_stored(h, g, n, at, dof, s, transforms, k, m, stride, u);
     }
 }
 
 // The pull at frame k.
-fn pull_at(
-    frames: &[f64],
-    actions: &[f64],
-    k: usize,
-    normal: [f64; 3],
-    offset: f64,
-    weight: f64,
-) -> Pull
+fn pull_at(frames: &[f64], actions: &[f64], k: usize, plane: Plane, weight: f64) -> Pull
     requires { Held frames.now actions.now k }
-    ensures { result ≡ pull_at frames.now actions.now normal offset weight k }
+    ensures { result ≡ pull_at frames.now actions.now plane.normal plane.offset weight k }
 {
     let f = Centred::from_list(plane_fit::whole_at(frames, CENTRED, k));
     let x = plane_fit::whole_at(actions, ACTION, k);
-    frame_cost::frame_pull(x, f, normal, offset, weight)
-}
-
-// Whether two shapes are the same. This only chooses a way: were the answer false, frames would go one by one.
-fn same_shape(a: Shape, b: Shape) -> bool
-    ensures { result ≡ true → a ≡ b }
-{
-    match a {
-        Shape::Absent => match b {
-            Shape::Absent => true,
-            Shape::Sized(_, _) => false,
-        },
-        Shape::Sized(rows, cols) => match b {
-            Shape::Absent => false,
-            Shape::Sized(r, c) => rows == r && cols == c,
-        },
-    }
+    frame_cost::frame_pull(x, f, plane, weight)
 }
 
 // Where the run of frames of one shape ends that begins at frame `from`. A shorter run is right too, and slower.
@@ -140,12 +113,10 @@ fn run_end(shapes: &[u32], from: usize, count: usize) -> usize
     ensures { (from < result) × (result ≤ count) × Alike shapes.now from result }
 {
     let s = block_transforms::shape_at(shapes, from);
-    let mut k = from + 1;
-    while k < count {
-        if !same_shape(block_transforms::shape_at(shapes, k), s) {
+    for k in from + 1..count {
+        if block_transforms::shape_at(shapes, k) != s {
             return k;
         }
-        k += 1;
     }
     count
 }
@@ -170,25 +141,37 @@ fn add_singles(
     map: &[u32],
     shapes: &[u32],
     transforms: &[f64],
-    normal: [f64; 3],
-    offset: f64,
+    plane: Plane,
     weight: f64,
     first: usize,
     end: usize,
     start: f64,
 ) -> f64
     requires { Ready (length h.old) (length g.old) dof frames.now actions.now map.now shapes.now transforms.now × (first ≤ end) × (end ≤ frame_count frames.now) }
-    ensures { Continued (length g.old) dof frames.now actions.now map.now shapes.now transforms.now normal offset weight first end start result h.old h.new g.old g.new }
+    ensures { Continued (length g.old) dof frames.now actions.now map.now shapes.now transforms.now plane.normal plane.offset weight first end start result h.old h.new g.old g.new }
 {
     let mut sum = start;
     let mut m = [0.0; 90];
     let mut u = [0.0; 90];
     for k in first..end {
-        let p = pull_at(frames, actions, k, normal, offset, weight);
+        let p = pull_at(frames, actions, k, plane, weight);
         let place = normal_blocks::lookup(map, k);
         let s = block_transforms::shape_at(shapes, k);
         add_frame(
-            h, g, place, dof, s, frames, actions, k, normal, p, weight, transforms, &mut m, &mut u,
+            h,
+            g,
+            place,
+            dof,
+            s,
+            frames,
+            actions,
+            k,
+            plane.normal,
+            p,
+            weight,
+            transforms,
+            &mut m,
+            &mut u,
         );
         sum = sum + p.cost;
     }
@@ -218,16 +201,15 @@ fn add_pairs(
     map: &[u32],
     shapes: &[u32],
     transforms: &[f64],
-    normal: [f64; 3],
-    offset: f64,
+    plane: Plane,
     weight: f64,
     first: usize,
     end: usize,
     sum: f64,
     cols: usize,
 ) -> f64
-    requires { RunReady (length h.old) (length g.old) dof frames.now actions.now map.now shapes.now transforms.now first end × (shape_at shapes.now first ≡ Sized 6 cols) × ((cols ≡ 3) ⊎ (cols ≡ 5)) }
-    ensures { Continued (length g.old) dof frames.now actions.now map.now shapes.now transforms.now normal offset weight first end sum result h.old h.new g.old g.new }
+    requires { RunReady (length h.old) (length g.old) dof frames.now actions.now map.now shapes.now transforms.now first end × (shape_at shapes.now first ≡ sized 6 cols) × ((cols ≡ 3) ⊎ (cols ≡ 5)) }
+    ensures { Continued (length g.old) dof frames.now actions.now map.now shapes.now transforms.now plane.normal plane.offset weight first end sum result h.old h.new g.old g.new }
 {
     let f = CENTRED * first;
     let x = ACTION * first;
@@ -235,36 +217,34 @@ fn add_pairs(
     let p = within(first, map.len());
     let size = end - first;
     if cols == 3 {
-        return frame_pairs::add_by_three(
+        return frame_pairs::add_run::<3, 26>(
             h,
             g,
             &frames[f..],
             &actions[x..],
             &map[p..],
             &transforms[t..],
-            normal,
-            offset,
+            plane,
             weight,
             size,
             sum,
         );
     }
-    frame_pairs::add_by_five(
+    frame_pairs::add_run::<5, 62>(
         h,
         g,
         &frames[f..],
         &actions[x..],
         &map[p..],
         &transforms[t..],
-        normal,
-        offset,
+        plane,
         weight,
         size,
         sum,
     )
 }
 
-// The frames of a run through transforms of so many rows and columns: side by side, or one after the other.
+// The frames of a run through transforms of the shape s: side by side, or one after the other.
 fn add_sized(
     h: &mut [f64],
     g: &mut [f64],
@@ -274,27 +254,24 @@ fn add_sized(
     map: &[u32],
     shapes: &[u32],
     transforms: &[f64],
-    normal: [f64; 3],
-    offset: f64,
+    plane: Plane,
     weight: f64,
     first: usize,
     end: usize,
     sum: f64,
-    rows: usize,
-    cols: usize,
+    s: Shape,
 ) -> f64
-    requires { RunReady (length h.old) (length g.old) dof frames.now actions.now map.now shapes.now transforms.now first end × (shape_at shapes.now first ≡ Sized rows cols) }
-    ensures { Continued (length g.old) dof frames.now actions.now map.now shapes.now transforms.now normal offset weight first end sum result h.old h.new g.old g.new }
+    requires { RunReady (length h.old) (length g.old) dof frames.now actions.now map.now shapes.now transforms.now first end × (shape_at shapes.now first ≡ Some s) }
+    ensures { Continued (length g.old) dof frames.now actions.now map.now shapes.now transforms.now plane.normal plane.offset weight first end sum result h.old h.new g.old g.new }
 {
-    if in_pairs(rows, cols) {
+    if in_pairs(s.rows, s.cols) {
         return add_pairs(
-            h, g, dof, frames, actions, map, shapes, transforms, normal, offset, weight, first,
-            end, sum, cols,
+            h, g, dof, frames, actions, map, shapes, transforms, plane, weight, first, end, sum,
+            s.cols,
         );
     }
     add_singles(
-        h, g, dof, frames, actions, map, shapes, transforms, normal, offset, weight, first, end,
-        sum,
+        h, g, dof, frames, actions, map, shapes, transforms, plane, weight, first, end, sum,
     )
 }
 
@@ -308,18 +285,17 @@ fn add_run(
     map: &[u32],
     shapes: &[u32],
     transforms: &[f64],
-    normal: [f64; 3],
-    offset: f64,
+    plane: Plane,
     weight: f64,
     first: usize,
     end: usize,
     sum: f64,
 ) -> f64
     requires { RunReady (length h.old) (length g.old) dof frames.now actions.now map.now shapes.now transforms.now first end }
-    ensures { Continued (length g.old) dof frames.now actions.now map.now shapes.now transforms.now normal offset weight first end sum result h.old h.new g.old g.new }
+    ensures { Continued (length g.old) dof frames.now actions.now map.now shapes.now transforms.now plane.normal plane.offset weight first end sum result h.old h.new g.old g.new }
 {
     match block_transforms::shape_at(shapes, first) {
-        Shape::Absent => {
+        None => {
             let f = CENTRED * first;
             let x = ACTION * first;
             let p = within(first, map.len());
@@ -330,16 +306,14 @@ fn add_run(
                 &frames[f..],
                 &actions[x..],
                 &map[p..],
-                normal,
-                offset,
+                plane,
                 weight,
                 end - first,
                 sum,
             )
         }
-        Shape::Sized(rows, cols) => add_sized(
-            h, g, dof, frames, actions, map, shapes, transforms, normal, offset, weight, first,
-            end, sum, rows, cols,
+        Some(s) => add_sized(
+            h, g, dof, frames, actions, map, shapes, transforms, plane, weight, first, end, sum, s,
         ),
     }
 }
@@ -354,21 +328,19 @@ fn add_frames(
     map: &[u32],
     shapes: &[u32],
     transforms: &[f64],
-    normal: [f64; 3],
-    offset: f64,
+    plane: Plane,
     weight: f64,
     count: usize,
 ) -> f64
     requires { (count ≡ frame_count frames.now) × Ready (length h.old) (length g.old) dof frames.now actions.now map.now shapes.now transforms.now }
-    ensures { Summed (length g.old) dof frames.now actions.now map.now shapes.now transforms.now normal offset weight count result h.old h.new g.old g.new }
+    ensures { Summed (length g.old) dof frames.now actions.now map.now shapes.now transforms.now plane.normal plane.offset weight count result h.old h.new g.old g.new }
 {
     let mut sum = 0.0;
     let mut k = 0;
     while k < count {
         let end = run_end(shapes, k, count);
         sum = add_run(
-            h, g, dof, frames, actions, map, shapes, transforms, normal, offset, weight, k, end,
-            sum,
+            h, g, dof, frames, actions, map, shapes, transforms, plane, weight, k, end, sum,
         );
         k = end;
     }
@@ -386,20 +358,19 @@ pub fn add_all(
     map: &[u32],
     shapes: &[u32],
     transforms: &[f64],
-    normal: [f64; 3],
-    offset: f64,
+    plane: Plane,
     weight: f64,
 ) -> f64
     requires { Ready (length h.old) (length g.old) dof frames.now actions.now map.now shapes.now transforms.now × ((length fixed.now ≡ 0) ⊎ (length fixed.now ≡ CENTRED)) }
-    ensures { AllAdded (length g.old) dof frames.now fixed.now actions.now map.now shapes.now transforms.now normal offset weight result h.old h.new g.old g.new }
+    ensures { AllAdded (length g.old) dof frames.now fixed.now actions.now map.now shapes.now transforms.now plane.normal plane.offset weight result h.old h.new g.old g.new }
 {
     let count = frames.len() / CENTRED;
     if map.len() == 0 {
-        let alone = frame_cost::frames_cost(frames, actions, normal, offset, weight, count);
-        return frame_cost::with_fixed(alone, fixed, normal, offset, weight);
+        let alone = frame_cost::frames_cost(frames, actions, plane, weight, count);
+        return frame_cost::with_fixed(alone, fixed, plane, weight);
     }
     let sum = add_frames(
-        h, g, dof, frames, actions, map, shapes, transforms, normal, offset, weight, count,
+        h, g, dof, frames, actions, map, shapes, transforms, plane, weight, count,
     );
-    frame_cost::with_fixed(sum, fixed, normal, offset, weight)
+    frame_cost::with_fixed(sum, fixed, plane, weight)
 }

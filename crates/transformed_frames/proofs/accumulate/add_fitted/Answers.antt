@@ -14,10 +14,10 @@ pub add_all-requires : goal.add_all-requires
 add_all-requires c =
     (ready_call _ _ _ c.requires, (accepted_call _ _ _ c.requires).whole.fixed_whole)
 
-pub returns-in-Plane : goal.returns-in-Plane
-returns-in-Plane c =
-    λ x. all_call _ _ x _ _ _ _ _ _ _ _ _ c.requires (fit_is _ _ _ c.fit_mean-mean.ensures c.smallest_axis.ensures ∙ c.in-Plane.is) c.weight-weight.ensures c.add_all.ensures
+pub returns-in-Some : goal.returns-in-Some
+returns-in-Some c =
+    λ x. all_call _ _ x _ _ _ _ _ _ c.requires (fit_is _ _ _ c.fit_mean-mean.ensures c.smallest_axis.ensures ∙ c.in-Some.is) c.weight-weight.ensures c.add_all.ensures
 
-pub returns-in-NoPlane : goal.returns-in-NoPlane
-returns-in-NoPlane c =
-    λ x. no_plane_call _ _ x _ c.requires (fit_is _ _ _ c.fit_mean-mean.ensures c.smallest_axis.ensures ∙ c.in-NoPlane.is)
+pub returns-in-None : goal.returns-in-None
+returns-in-None c =
+    λ x. no_plane_call _ _ x _ c.requires (fit_is _ _ _ c.fit_mean-mean.ensures c.smallest_axis.ensures ∙ c.in-None.is)

@@ -6,4 +6,4 @@ use Rattle.transformed_frames.proofs.frames.add_sized.Goals as goal
 pub add_pairs-requires : goal.add_pairs-requires
 add_pairs-requires c =
     let thin = c.in_pairs.ensures c.if-in_pairs.true in
-    (c.requires.0, shape_is _ _ _ _ _ c.requires.1 thin.0 refl, thin.1)
+    (c.requires.0, shape_is _ c.args.s.rows c.args.s.cols _ _ c.requires.1 thin.0 refl, thin.1)
