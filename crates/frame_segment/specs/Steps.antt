@@ -27,10 +27,12 @@ frame_rows x f n width = record {
   m = padded 9 width (d_along x n f.mean);
 }
 
--- row i of column j: ((Σ_k p_k(i)·d_k(j)) + (m_i·m_j)·count)·weight
+-- row i of a column: ((Σ_k p_k(i)·s_k) + (m_i·t)·count)·weight
+unfoldable pub column_entry : Rows → List Float → Float → Float → Float → ℕ → Float
+column_entry r s t count weight i = (combined (rows r.p0 r.p1 r.p2) s i ⊕ get_or r.m i nan ⊗ t ⊗ count) ⊗ weight
+
 unfoldable pub rows_entry : Rows → Float → Float → ℕ → ℕ → Float
-rows_entry r count weight i j =
-    (combined (rows r.p0 r.p1 r.p2) (get_or r.d0 j nan ∷ get_or r.d1 j nan ∷ get_or r.d2 j nan ∷ []) i ⊕ get_or r.m i nan ⊗ get_or r.m j nan ⊗ count) ⊗ weight
+rows_entry r count weight i j = column_entry r (get_or r.d0 j nan ∷ get_or r.d1 j nan ∷ get_or r.d2 j nan ∷ []) (get_or r.m j nan) count weight i
 
 -- entry i of a vector: ((Σ_l d_l(i)·s_l) + m_i·t)·weight
 unfoldable pub rows_vector : Rows → List Float → Float → Float → ℕ → Float
@@ -78,7 +80,7 @@ rows_are x n f width {o} {d0} {d1} {d2} ho h0 h1 h2 hm q0 q1 q2 =
 -- what is worked out of them is the frame's
 module _ (x n : List Float) (f : Centred) (width : ℕ) {r : Rows} (is : r ≡ frame_rows x f n width) where
   pub entry_is : (weight : Float) (i j : ℕ) → i < width → j < width → rows_entry r f.count weight i j ≡ block_entry x f n weight i j
-  unfolding frame_rows rows_entry block_entry combined
+  unfolding frame_rows rows_entry column_entry block_entry combined
   entry_is weight i j k l =
       rw is (cc (
         first_of 9 width (d_along x n f.mean) _ refl i k,

@@ -9,7 +9,7 @@ ghost use Rattle.derivative.specs.Action.{action_size};
 ghost use Rattle.plane_fit.specs.Fit.{frame_at, action_at};
 ghost use Rattle.frame_segment.specs.Columns.{columns};
 ghost use Rattle.frame_segment.specs.Frame.{block_entry, pulled_entry};
-ghost use Rattle.frame_segment.specs.Steps.{frame_rows, rows_entry, rows_vector, Added, Held};
+ghost use Rattle.frame_segment.specs.Steps.{frame_rows, column_entry, rows_entry, rows_vector, Added, Held};
 
 use derivative::{ACTION, AXIS_X, AXIS_Y, AXIS_Z, ORIGIN};
 use point_moments::scatter::{CENTRED, Centred};
@@ -55,9 +55,9 @@ impl Rows {
 
     // Column j of the block, as an array.
     #[inline(always)]
-    pub fn column(self, j: usize, count: f64, weight: f64, width: usize) -> [f64; 9]
+    pub fn column(&self, j: usize, count: f64, weight: f64, width: usize) -> [f64; 9]
         requires { (j < 9) × (width ≤ 9) }
-        ensures { result ≡ padded 9 width (λ i. rows_entry self count weight i j) }
+        ensures { result ≡ padded 9 width (λ i. rows_entry self.now count weight i j) }
     {
         let s0 = self.d0[j];
         let s1 = self.d1[j];
@@ -76,9 +76,9 @@ impl Rows {
 
     // The vector for a pull s and t, as an array.
     #[inline(always)]
-    pub fn vector(self, s: [f64; 3], t: f64, weight: f64, width: usize) -> [f64; 9]
+    pub fn vector(&self, s: [f64; 3], t: f64, weight: f64, width: usize) -> [f64; 9]
         requires { width ≤ 9 }
-        ensures { result ≡ padded 9 width (rows_vector self s t weight) }
+        ensures { result ≡ padded 9 width (rows_vector self.now s t weight) }
     {
         let s0 = s[0];
         let s1 = s[1];
@@ -91,16 +91,24 @@ impl Rows {
     }
 }
 
-// Column j of a block is added to the cells from `base` on.
+// One column of a block is added to the cells from `base` on.
 #[inline(always)]
-fn add_column(h: &mut [f64], base: usize, width: usize, r: Rows, j: usize, count: f64, weight: f64)
-    requires { (width ≤ 9) × (j < 9) × (base + width ≤ length h.old) }
-    ensures { h.new ≡ add_all h.old (segment base width (λ i. rows_entry r count weight i j)) }
+fn add_column(
+    h: &mut [f64],
+    base: usize,
+    width: usize,
+    r: &Rows,
+    s: [f64; 3],
+    t: f64,
+    count: f64,
+    weight: f64,
+)
+    requires { (width ≤ 9) × (base + width ≤ length h.old) }
+    ensures { h.new ≡ add_all h.old (segment base width (column_entry r.now s t count weight)) }
 {
-    let s0 = r.d0[j];
-    let s1 = r.d1[j];
-    let s2 = r.d2[j];
-    let t = r.m[j];
+    let s0 = s[0];
+    let s1 = s[1];
+    let s2 = s[2];
     for i in 0..width {
         let k = base + i;
         h[k] = h[k] + (r.p0[i] * s0 + r.p1[i] * s1 + r.p2[i] * s2 + r.m[i] * t * count) * weight;
@@ -108,6 +116,7 @@ fn add_column(h: &mut [f64], base: usize, width: usize, r: Rows, j: usize, count
 }
 
 // So many columns of the block from column `first` on are added, one after the other, at row and column `at` of a Hessian of order n.
+// The rows that are read at j are copied: the compiler then keeps the others in registers.
 #[inline(always)]
 fn add_columns(
     h: &mut [f64],
@@ -116,25 +125,35 @@ fn add_columns(
     width: usize,
     first: usize,
     many: usize,
-    r: Rows,
+    r: &Rows,
     count: f64,
     weight: f64,
 )
     requires { (width ≤ 9) × (first + many ≤ width) × (at + width ≤ n) × (length h.old ≡ n * n) }
-    ensures { h.new ≡ add_all h.old (columns n at width (rows_entry r count weight) first many) }
+    ensures { h.new ≡ add_all h.old (columns n at width (rows_entry r.now count weight) first many) }
 {
+    let Rows { d0, d1, d2, m, .. } = *r;
     for c in 0..many {
         let j = first + c;
         let base = (at + j) * n + at;
-        add_column(h, base, width, r, j, count, weight);
+        add_column(
+            h,
+            base,
+            width,
+            r,
+            [d0[j], d1[j], d2[j]],
+            m[j],
+            count,
+            weight,
+        );
     }
 }
 
 // The whole block. Seven columns take two turns: of seven at once the compiler would make a loop, which is slower.
 #[inline(always)]
-fn add_block(h: &mut [f64], n: usize, at: usize, width: usize, r: Rows, count: f64, weight: f64)
+fn add_block(h: &mut [f64], n: usize, at: usize, width: usize, r: &Rows, count: f64, weight: f64)
     requires { (width ≤ 9) × (at + width ≤ n) × (length h.old ≡ n * n) }
-    ensures { h.new ≡ add_all h.old (block n at width (rows_entry r count weight)) }
+    ensures { h.new ≡ add_all h.old (block n at width (rows_entry r.now count weight)) }
 {
     let first = if width == 7 { 3 } else { 0 };
     add_columns(h, n, at, width, 0, first, r, count, weight);
@@ -143,9 +162,9 @@ fn add_block(h: &mut [f64], n: usize, at: usize, width: usize, r: Rows, count: f
 
 // The vector is added to the gradient from row `at` on.
 #[inline(always)]
-fn add_vector(g: &mut [f64], at: usize, width: usize, r: Rows, s: [f64; 3], t: f64, weight: f64)
+fn add_vector(g: &mut [f64], at: usize, width: usize, r: &Rows, s: [f64; 3], t: f64, weight: f64)
     requires { (width ≤ 9) × (at + width ≤ length g.old) }
-    ensures { g.new ≡ add_all g.old (segment at width (rows_vector r s t weight)) }
+    ensures { g.new ≡ add_all g.old (segment at width (rows_vector r.now s t weight)) }
 {
     let s0 = s[0];
     let s1 = s[1];
@@ -178,8 +197,8 @@ fn add_width(
     let f = Centred::from_list(plane_fit::whole_at(frames, CENTRED, k));
     let x = plane_fit::whole_at(actions, ACTION, k);
     let r = Rows::of_frame(x, f, normal, width);
-    add_block(h, n, at, width, r, f.count, weight);
-    add_vector(g, at, width, r, s, t, weight);
+    add_block(h, n, at, width, &r, f.count, weight);
+    add_vector(g, at, width, &r, s, t, weight);
 }
 
 // A frame's block and vector are added at row `at`.

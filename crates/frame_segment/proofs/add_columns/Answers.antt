@@ -4,6 +4,7 @@ use mathlib.Core.Path.{◌≡◌, refl, ◌∙◌}
 use native.Mathlib.Omega.{arith}
 use Rattle.terms.proofs.Laws.{column-before}
 use Rattle.frame_segment.specs.Columns.{columns-none, columns_more}
+use Rattle.frame_segment.specs.Steps.{rows_entry}
 use Rattle.frame_segment.proofs.add_columns.Goals as goal
 use Rattle.frame_segment.proofs.add_columns.Goals.{In-loop-c}
 
@@ -21,9 +22,10 @@ pub overflow_add-base-in-loop-c : goal.overflow_add-base-in-loop-c
 overflow_add-base-in-loop-c c = omega (arith, inside c)
 
 pub add_column-requires : goal.add_column-requires
-add_column-requires c = (omega arith, omega arith, omega (arith, inside (goal.at.add_column-requires c).In-loop-c))
+add_column-requires c = (omega arith, omega (arith, inside (goal.at.add_column-requires c).In-loop-c))
 
 pub loop-c-preserved : goal.loop-c-preserved
+unfolding rows_entry
 loop-c-preserved c =
     let at = c.loop-c in
     (c.add_column.auto.h ∙ at.invariant.0, columns_more _ _ _ _ _ at.h _ _ at.c at.invariant.1 c.add_column.ensures)

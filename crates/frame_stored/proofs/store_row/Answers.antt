@@ -2,12 +2,11 @@
 use mathlib.Core.Path.{refl}
 use borrow.Author.Rules.{rules}
 use Rattle.sums.specs.Fill.{writing_none, writing_more, writing_all}
-use Rattle.derivative.specs.Derivative.{combined}
-use Rattle.frame_segment.specs.Steps.{rows_entry}
+use Rattle.frame_stored.specs.Stored.{row_entry}
 use Rattle.frame_stored.proofs.store_row.Goals as goal
 
 pub loop-j-preserved : goal.loop-j-preserved
-unfolding rows_entry combined
+unfolding row_entry
 loop-j-preserved c =
     let l = c.loop-j in
     writing_more _ _ _ _ l.out l.j _ (search rules) (search rules) refl l.invariant
@@ -16,4 +15,5 @@ pub loop-j-init : goal.loop-j-init
 loop-j-init c = writing_none _ _ _ _
 
 pub returns : goal.returns
+unfolding row_entry
 returns c = writing_all _ _ _ _ _ _ c.loop-j-test.false c.loop-j.invariant

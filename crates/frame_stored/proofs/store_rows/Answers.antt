@@ -3,6 +3,7 @@ use Prim.Native.Nat.{◌+◌, ◌*◌, ◌≤◌}
 use mathlib.Core.Path.{◌≡◌, refl}
 use native.Mathlib.Omega.{arith}
 use Rattle.transform_products.proofs.Laws.{row_fits, row_written, rows_none, rows_more}
+use Rattle.frame_stored.proofs.Laws.{row_same}
 use Rattle.frame_stored.proofs.store_rows.Goals as goal
 use Rattle.frame_stored.proofs.store_rows.Goals.{In-loop-i}
 
@@ -13,14 +14,14 @@ fits c = row_fits c.loop-i.i c.args.stride (omega (arith, c.requires.0)) c.requi
 pub store_row-requires : goal.store_row-requires
 store_row-requires c =
     let pre = c.requires in
-    (pre.0, omega arith, omega (arith, fits (goal.at.store_row-requires c).In-loop-i, pre.2))
+    (pre.0, omega (arith, fits (goal.at.store_row-requires c).In-loop-i, pre.2))
 
 pub loop-i-preserved : goal.loop-i-preserved
 loop-i-preserved c =
     let l = c.loop-i in
     let pre = c.requires in
     let fit = fits (goal.at.loop-i-preserved c).In-loop-i in
-    let row = row_written _ _ _ _ l.i _ _ l.out _ (omega (arith, fit, pre.2, l.invariant.size)) (λ k h. refl) refl c.store_row.ensures in
+    let row = row_written _ _ _ _ l.i _ _ l.out _ (omega (arith, fit, pre.2, l.invariant.size)) (λ k h. row_same _ _ _ l.i k) refl c.store_row.ensures in
     rows_more _ _ _ l.i _ l.out _ (omega (arith, pre.0, c.loop-i-test.true)) pre.1 (omega (arith, pre.2)) (λ k h. refl) row l.invariant
 
 pub returns : goal.returns
