@@ -2,7 +2,6 @@
 use Prim.Native.Nat.{◌+◌, ◌*◌, ◌≤◌}
 use mathlib.Core.Path.{refl, ◌∙◌}
 use native.Mathlib.Omega.{arith}
-use borrow.Author.Rules.{rules}
 use Rattle.sums.specs.Fill.{column_ends}
 use Rattle.terms.proofs.Laws.{upto-none, block_more, block_all, column-before}
 use Rattle.transform_products.proofs.Laws.{column_added, right_size}
@@ -24,19 +23,19 @@ right_column-column-requires c =
 pub add_run-requires : goal.add_run-requires
 add_run-requires c =
     let pre = c.requires in
-    (omega (arith, inside (goal.at.add_run-requires c).In-loop-j, pre.4, pre.5, c.loop-j.invariant.1), omega (arith, right_size _ _ _ pre.0 c.right_column-column.ensures, pre.0))
+    (omega (arith, inside (goal.at.add_run-requires c).In-loop-j, pre.4, pre.5, c.loop-j.invariant.0), omega (arith, right_size _ _ _ pre.0 c.right_column-column.ensures, pre.0))
 
 pub loop-j-preserved : goal.loop-j-preserved
 loop-j-preserved c =
     let l = c.loop-j in
     let a = c.args in
-    (search rules, c.add_run.auto.h ∙ l.invariant.1, block_more _ l.h _ _ _ _ _ l.j l.invariant.2 (column_added a.n a.at a.rows a.cols a.stride a.t.now a.from a.u.now l.j _ l.h _ c.right_column-column.ensures c.add_run.ensures))
+    (c.add_run.auto.h ∙ l.invariant.0, block_more _ l.h _ _ _ _ _ l.j l.invariant.1 (column_added a.n a.at a.rows a.cols a.stride a.t.now a.from a.u.now l.j _ l.h _ c.right_column-column.ensures c.add_run.ensures))
 
 pub returns : goal.returns
-returns c = block_all _ _ _ _ _ c.loop-j.j _ (omega arith) c.loop-j.invariant.2
+returns c = block_all _ _ _ _ _ c.loop-j.j _ (omega arith) c.loop-j.invariant.1
 
 pub loop-j-init : goal.loop-j-init
-loop-j-init c = (search rules, refl, upto-none _ _)
+loop-j-init c = (refl, upto-none _ _)
 
 pub overflow_mul-j : goal.overflow_mul-j
 overflow_mul-j c = omega (arith, ends c, c.requires.3)

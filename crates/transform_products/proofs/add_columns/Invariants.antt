@@ -1,4 +1,3 @@
-use Prim.Native.Nat.{◌≤◌, ◌-◌}
 use mathlib.Core.Path.{◌≡◌}
 use lib.ListN.{length}
 use Rattle.sums.specs.Sum.{◌⊗◌, sum_to}
@@ -9,7 +8,4 @@ use Rattle.transform_products.proofs.add_columns.Given as goal
 
 abbrev pub invariant-loop-j : goal.invariant-loop-j
 invariant-loop-j l =
-    (l.j ≤ l.cols) × (length l.h ≡ length l.initial.h) × (l.h ≡ add_all l.initial.h (upto l.j (column_at l.n l.at l.cols (λ i j. sum_to l.rows (λ k. rows_of l.stride l.u i k ⊗ entry_from l.t l.from l.rows k j)))))
-
-abbrev pub decreases-loop-j : goal.decreases-loop-j
-decreases-loop-j l = l.cols - l.j
+    (length l.h ≡ length l.initial.h) × (l.h ≡ add_all l.initial.h (upto l.j (column_at l.n l.at l.cols (λ i j. sum_to l.rows (λ k. rows_of l.stride l.u i k ⊗ entry_from l.t l.from l.rows k j)))))

@@ -2,7 +2,6 @@
 use Prim.Native.Nat.{◌+◌, ◌*◌, ◌≤◌}
 use mathlib.Core.Path.{refl, ◌∙◌}
 use native.Mathlib.Omega.{arith}
-use borrow.Author.Rules.{rules}
 use Rattle.terms.proofs.Laws.{upto-none, block_more, block_all, column-before}
 use Rattle.transform_products.specs.Rows.{spaced}
 use Rattle.transform_products.proofs.add_plain.Goals as goal
@@ -21,13 +20,13 @@ pub loop-j-preserved : goal.loop-j-preserved
 unfolding spaced
 loop-j-preserved c =
     let l = c.loop-j in
-    (search rules, c.add_spaced.auto.g ∙ l.invariant.1, block_more _ l.h _ _ _ _ _ l.j l.invariant.2 c.add_spaced.ensures)
+    (c.add_spaced.auto.g ∙ l.invariant.0, block_more _ l.h _ _ _ _ _ l.j l.invariant.1 c.add_spaced.ensures)
 
 pub returns : goal.returns
-returns c = block_all _ _ _ _ _ c.loop-j.j _ (omega arith) c.loop-j.invariant.2
+returns c = block_all _ _ _ _ _ c.loop-j.j _ (omega arith) c.loop-j.invariant.1
 
 pub loop-j-init : goal.loop-j-init
-loop-j-init c = (search rules, refl, upto-none _ _)
+loop-j-init c = (refl, upto-none _ _)
 
 pub overflow_mul-base : goal.overflow_mul-base
 overflow_mul-base c = omega (arith, inside c)

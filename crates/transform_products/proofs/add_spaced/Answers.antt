@@ -1,7 +1,6 @@
 -- `transform_products::add_spaced` meets its contract: after i turns the first i numbers are added. Assumes nothing.
 use mathlib.Core.Path.{refl}
 use native.Mathlib.Omega.{arith}
-use borrow.Author.Rules.{rules}
 use lib.ListN.{length-set}
 use Rattle.terms.proofs.Laws.{upto-none, segment_more, segment_all}
 use Rattle.transform_products.specs.Rows.{rows_of, spaced}
@@ -12,13 +11,13 @@ pub loop-i-preserved : goal.loop-i-preserved
 unfolding spaced rows_of
 loop-i-preserved c =
     let l = c.loop-i in
-    (search rules, simp length-set l.invariant.1, segment_more _ _ _ _ l.i _ l.invariant.2 refl)
+    (simp length-set l.invariant.0, segment_more _ _ _ _ l.i _ l.invariant.1 refl)
 
 pub returns : goal.returns
-returns c = segment_all _ _ _ _ c.loop-i.i _ (omega arith) c.loop-i.invariant.2
+returns c = segment_all _ _ _ _ c.loop-i.i _ (omega arith) c.loop-i.invariant.1
 
 pub loop-i-init : goal.loop-i-init
-loop-i-init c = (search rules, refl, upto-none _ _)
+loop-i-init c = (refl, upto-none _ _)
 
 pub overflow_mul-g : goal.overflow_mul-g
 overflow_mul-g c = omega (arith, row_fits c.loop-i.i c.args.stride (omega arith) c.requires.1)

@@ -1,4 +1,3 @@
-use Prim.Native.Nat.{◌≤◌, ◌-◌}
 use mathlib.Core.Path.{◌≡◌}
 use lib.ListN.{length}
 use Rattle.terms.specs.Terms.{add_all, upto, cell_at}
@@ -7,7 +6,4 @@ use Rattle.transform_products.proofs.add_spaced.Given as goal
 
 abbrev pub invariant-loop-i : goal.invariant-loop-i
 invariant-loop-i l =
-    (l.i ≤ l.width) × (length l.g ≡ length l.initial.g) × (l.g ≡ add_all l.initial.g (upto l.i (cell_at l.at (spaced l.stride l.a l.from))))
-
-abbrev pub decreases-loop-i : goal.decreases-loop-i
-decreases-loop-i l = l.width - l.i
+    (length l.g ≡ length l.initial.g) × (l.g ≡ add_all l.initial.g (upto l.i (cell_at l.at (spaced l.stride l.a l.from))))

@@ -2,7 +2,6 @@
 use Prim.Native.Nat.{◌+◌, ◌*◌, ◌≤◌}
 use mathlib.Core.Path.{◌≡◌}
 use native.Mathlib.Omega.{arith}
-use borrow.Author.Rules.{rules}
 use Rattle.sums.specs.Fill.{column_ends}
 use Rattle.transform_products.proofs.Laws.{row_fits, rows_none, rows_more, left_is}
 use Rattle.transform_products.proofs.left.Goals as goal
@@ -23,22 +22,22 @@ left_row-s-requires c =
 pub write-requires : goal.write-requires
 write-requires c =
     let pre = c.requires in
-    (omega (arith, pre.0), omega (arith, fits (goal.at.write-requires c).In-loop-i, pre.3), c.loop-i.invariant.1.size)
+    (omega (arith, pre.0), omega (arith, fits (goal.at.write-requires c).In-loop-i, pre.3))
 
 pub loop-i-preserved : goal.loop-i-preserved
 loop-i-preserved c =
     let l = c.loop-i in
     let pre = c.requires in
-    (search rules, rows_more _ _ _ l.i _ _ _ (omega (arith, pre.1, c.loop-i-test.true)) pre.2 (omega (arith, pre.3)) (left_is _ _ _ _ _ _ l.i _ c.left_row-s.ensures) c.write.ensures l.invariant.1)
+    rows_more _ _ _ l.i _ _ _ (omega (arith, pre.1, c.loop-i-test.true)) pre.2 (omega (arith, pre.3)) (left_is _ _ _ _ _ _ l.i _ c.left_row-s.ensures) c.write.ensures l.invariant
 
 pub returns : goal.returns
 returns c =
     let l = c.loop-i in
     let e : l.i ≡ c.args.cols = omega arith in
-    rw e at l.invariant.1
+    rw e at l.invariant
 
 pub loop-i-init : goal.loop-i-init
-loop-i-init c = (search rules, rows_none _ _ _ _ c.requires.5)
+loop-i-init c = rows_none _ _ _ c.args.out.now (omega arith)
 
 pub overflow_mul-i : goal.overflow_mul-i
 overflow_mul-i c = omega (arith, ends c, c.requires.4)

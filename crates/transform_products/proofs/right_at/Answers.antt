@@ -8,13 +8,13 @@ use Rattle.transform_products.proofs.right_at.Goals as goal
 
 pub loop-k-init : goal.loop-k-init
 unfolding number_from
-loop-k-init c = (omega arith, omega arith, rw (add-zero, add-zero))
+loop-k-init c = rw (add-zero, add-zero)
 
 pub loop-k-preserved : goal.loop-k-preserved
 unfolding number_from
 loop-k-preserved c =
     let l = c.loop-k in
-    (omega arith, omega arith, rw l.invariant.2 (sym (sum_to_more l.k _ l.invariant.0)))
+    rw l.invariant (sym (sum_to_more l.k _ (omega arith)))
 
 pub returns-then-count-eq0 : goal.returns-then-count-eq0
 returns-then-count-eq0 c = rw c.if-count-eq0.true
@@ -23,4 +23,4 @@ pub returns : goal.returns
 returns c =
     let l = c.loop-k in
     let e : l.k ≡ c.args.count = omega arith in
-    rw e at l.invariant.2
+    rw e at l.invariant

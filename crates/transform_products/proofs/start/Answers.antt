@@ -2,7 +2,6 @@
 use mathlib.Core.Path.{◌≡◌, refl}
 use native.Mathlib.Nat.{not-suc-le-zero}
 use native.Mathlib.Omega.{arith}
-use borrow.Author.Rules.{rules}
 use lib.ListN.{length-set}
 use Rattle.sums.specs.Fill.{first_more}
 use Rattle.transform_products.proofs.start.Goals as goal
@@ -10,13 +9,13 @@ use Rattle.transform_products.proofs.start.Goals as goal
 pub loop-k-preserved : goal.loop-k-preserved
 loop-k-preserved c =
     let l = c.loop-k in
-    (search rules, simp length-set l.invariant.1, first_more l.s _ l.k _ (search rules) refl l.invariant.2)
+    (simp length-set l.invariant.0, first_more l.s _ l.k _ (omega arith) refl l.invariant.1)
 
 pub returns : goal.returns
 returns c =
     let l = c.loop-k in
     let e : l.k ≡ c.args.lanes = omega arith in
-    record { are = rw e at l.invariant.2; size = l.invariant.1 }
+    record { are = rw e at l.invariant.1; size = l.invariant.0 }
 
 pub loop-k-init : goal.loop-k-init
-loop-k-init c = (search rules, c.requires.1, λ i l. absurd (not-suc-le-zero l))
+loop-k-init c = (omega arith, λ i l. absurd (not-suc-le-zero l))

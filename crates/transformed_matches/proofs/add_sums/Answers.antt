@@ -22,7 +22,7 @@ pub lay-requires : goal.lay-requires
 lay-requires c =
     let pre = c.requires in
     let there = pre.3 _ _ (sym c.shape_at.ensures ∙ c.in-Some.is) in
-    (omega (arith, there.1, pre.0), refl)
+    omega (arith, there.1, pre.0)
 
 pub add_other-requires : goal.add_other-requires
 add_other-requires c =
