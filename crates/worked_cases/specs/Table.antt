@@ -1,22 +1,18 @@
 -- Document 01's worked cases that are marked to be proved: what the definitions give, beside what the paper says. Definitions only.
-use Rattle.std.specs.Prelude.{Bool, true, false, ◌&&◌, List, [], ◌∷◌, ◌++◌, map, ℕ, zero, suc, ◌/◌, eqb, length, Float}
+use Rattle.std.specs.Prelude.{Bool, true, false, ◌&&◌, List, [], ◌∷◌, ◌++◌, map, ℕ, zero, suc, ◌/◌, eqb, length, Option, Some, None, Float}
 use Rattle.std.specs.Float.{binary64}
 use Rattle.std.specs.Float.Ieee.{of_bits, to_bits}
-use Rattle.lists.specs.Part.{◌!◌}
+use Rattle.lists.specs.Part.{◌!◌, part}
 use Rattle.point_moments.specs.Moments.{moments_list, of_points, transformed}
 use Rattle.point_moments.specs.Scatter.{mean_and_scatter}
 use Rattle.point_moments.specs.Plane.{plane_of}
+use Rattle.plane.specs.declared.Plane.{Plane}
 use Rattle.plane_fit.specs.Axis.{smallest_axis}
 use Rattle.frame_sets.specs.Sets.{points}
 use Rattle.plane_moments.specs.Build.{build_refusal}
-use Rattle.plane_fit.specs.declared.axis.Fit.{Fit}
-use Rattle.plane_fit.specs.declared.axis.Fit.TheVariants.{Plane, NoPlane}
 use Rattle.point_moments.specs.declared.PointMoments.{PointMoments}
 use Rattle.point_moments.specs.declared.plane.MomentsPlane.{MomentsPlane}
-use Rattle.point_moments.specs.declared.plane.MomentsPlane.TheVariants.{Found}
-use Rattle.point_moments.specs.declared.plane.MomentsPlane.TheVariants as moments
 use Rattle.point_moments.specs.declared.scatter.MeanAndScatter.{MeanAndScatter}
-use Rattle.point_moments.specs.declared.scatter.MeanAndScatter.TheVariants as mean
 use Rattle.square_root.specs.Computed.{square_root}
 use Rattle.total_order.specs.declared.Order.{Order}
 use Rattle.total_order.specs.Three.{order_of}
@@ -88,13 +84,13 @@ abbrev moments_from : List ℕ → PointMoments
 moments_from p = of_points (length p / 3) (numbers p)
 
 -- 1 for found, 0 for none; of mean and scatter with the twelve numbers
-abbrev mean_found : MeanAndScatter → List ℕ
-mean_found (mean.Found x y z xx yx zx xy yy zy xz yz zz) = 1 ∷ patterns (x ∷ y ∷ z ∷ xx ∷ yx ∷ zx ∷ xy ∷ yy ∷ zy ∷ xz ∷ yz ∷ zz ∷ [])
-mean_found mean.NoMean = 0 ∷ []
+abbrev mean_found : Option MeanAndScatter → List ℕ
+mean_found (Some f) = 1 ∷ patterns (part 3 f.mean 0 ++ part 9 f.scatter 0)
+mean_found None = 0 ∷ []
 
-abbrev found : MomentsPlane → ℕ
-found (Found n0 n1 n2 offset v0 v1 v2) = 1
-found moments.NoPlane = 0
+abbrev found : Option MomentsPlane → ℕ
+found (Some p) = 1
+found None = 0
 
 -- (0,0,0), (2,0,0), (0,2,0), (2,2,0)
 abbrev corners : List ℕ
@@ -133,9 +129,9 @@ case_d = record {
 }
 
 -- the fit's answer: 1 and the normal, or 0
-abbrev fitted : Fit → List ℕ
-fitted (Plane n0 n1 n2 offset) = 1 ∷ patterns (n0 ∷ n1 ∷ n2 ∷ [])
-fitted NoPlane = 0 ∷ []
+abbrev fitted : Option Plane → List ℕ
+fitted (Some p) = 1 ∷ patterns (part 3 p.normal 0)
+fitted None = 0 ∷ []
 
 -- the fit of a plane through the origin, by three eigenvalues and the unit axes as their vectors
 abbrev fit_of : ℕ → ℕ → ℕ → List ℕ

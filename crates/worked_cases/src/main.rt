@@ -8,8 +8,7 @@ ghost use Rattle.point_moments.specs.Moments.{with_point, merged};
 ghost use Rattle.counted_moments.specs.Counted.{push_refusal, merge_refusal};
 
 use point_moments::PointMoments;
-use point_moments::plane::MomentsPlane;
-use point_moments::scatter::MeanAndScatter;
+use refusals::told;
 use std::io;
 
 // The places of three patterns in rising order.
@@ -44,10 +43,10 @@ fn list(rt: &impl Print, label: &str, numbers: &[f64]) -> io::Result<()> {
 
 // The moments of a list of points; of one that is refused, the empty set's.
 fn gathered(points: &[f64]) -> PointMoments {
-    if point_moments::points_refusal(points) != 0 {
-        return PointMoments::empty();
+    match point_moments::points_refusal(points) {
+        Ok(()) => PointMoments::from_points(points),
+        Err(_) => PointMoments::empty(),
     }
-    PointMoments::from_points(points)
 }
 
 fn moments(rt: &impl Print, label: &str, m: PointMoments) -> io::Result<()> {
@@ -57,10 +56,12 @@ fn moments(rt: &impl Print, label: &str, m: PointMoments) -> io::Result<()> {
 // The mean of a set and the scatter about it.
 fn mean(rt: &impl Print, label: &str, m: PointMoments) -> io::Result<()> {
     match m.mean_and_scatter() {
-        MeanAndScatter::Found(x, y, z, xx, yx, zx, xy, yy, zy, xz, yz, zz) => {
-            list(rt, label, &[x, y, z, xx, yx, zx, xy, yy, zy, xz, yz, zz])
+        Some(f) => {
+            let mean = f.mean;
+            let scatter = f.scatter;
+            list(rt, label, &lists::three_and_nine(mean, scatter))
         }
-        MeanAndScatter::NoMean => list(rt, label, &[]),
+        None => list(rt, label, &[]),
     }
 }
 
@@ -69,7 +70,7 @@ fn pushed(m: PointMoments, p: [f64; 3]) -> PointMoments
     ensures { result ≡ kept (push_refusal m p) m (with_point m p) }
 {
     let mut v = m;
-    lent_moments::push(&mut v, p);
+    let _ = lent_moments::push(&mut v, p);
     v
 }
 
@@ -77,7 +78,7 @@ fn merged(m: PointMoments, other: PointMoments) -> PointMoments
     ensures { result ≡ kept (merge_refusal m other) m (merged m other) }
 {
     let mut v = m;
-    lent_moments::merge(&mut v, other);
+    let _ = lent_moments::merge(&mut v, other);
     v
 }
 
@@ -105,21 +106,18 @@ fn halves() -> PointMoments {
 
 // So many points at the origin that no more are counted.
 fn full() -> PointMoments {
-    let sum = [0.0; 3];
-    let outer = [0.0; 9];
     PointMoments {
         count: 9007199254740992.0,
-        sum,
-        outer,
+        ..PointMoments::empty()
     }
 }
 
 // Why a push and a merge into that set are refused, and the set after each.
 fn refused(rt: &impl Print, p: [f64; 3]) -> io::Result<()> {
     let one = pushed(PointMoments::empty(), p);
-    print!(rt; "{}", counted_moments::push_refusal(full(), p))?;
+    print!(rt; "{}", told(counted_moments::push_refusal(full(), p)))?;
     moments(rt, " pushed", pushed(full(), p))?;
-    print!(rt; "{}", counted_moments::merge_refusal(full(), one))?;
+    print!(rt; "{}", told(counted_moments::merge_refusal(full(), one)))?;
     moments(rt, " merged", merged(full(), one))
 }
 
@@ -142,10 +140,9 @@ const NARROW: [u64; 12] = [
 // Whether a set of points has a plane by a decomposition.
 fn plane(rt: &impl Print, label: &str, m: PointMoments) -> io::Result<()> {
     let d = NARROW;
-    let p = m.plane(&d);
-    match p {
-        MomentsPlane::Found(_, _, _, _, _, _, _) => println!(rt; "{label} plane"),
-        MomentsPlane::NoPlane => println!(rt; "{label} none"),
+    match m.plane(&d) {
+        Some(_) => println!(rt; "{label} plane"),
+        None => println!(rt; "{label} none"),
     }
 }
 
@@ -164,7 +161,7 @@ fn build(rt: &impl Print, label: &str, count: f64, fixed: f64) -> io::Result<()>
     let mut sets = [0.0; 13];
     let mut points = 0.0;
     let mut dropped: u32 = 0;
-    let why = plane_moments::build::build(
+    let answer = plane_moments::build::build(
         6,
         &frame,
         &set,
@@ -174,7 +171,7 @@ fn build(rt: &impl Print, label: &str, count: f64, fixed: f64) -> io::Result<()>
         &mut points,
         &mut dropped,
     );
-    print!(rt; "{label}{why}")?;
+    print!(rt; "{label}{}", told(answer))?;
     list(rt, "", &[points])
 }
 
@@ -221,6 +218,7 @@ fn moving_out() -> [f64; 120] {
     x
 }
 
+// A call that is refused leaves the zeros, which are then printed.
 fn accumulate(rt: &impl Print) -> io::Result<()> {
     let frames = SQUARE;
     let fixed = [0.0; 0];
@@ -230,7 +228,7 @@ fn accumulate(rt: &impl Print) -> io::Result<()> {
     let mut hessian = [0.0; 1];
     let mut gradient = [0.0; 1];
     let mut cost = 0.0;
-    plane_moments::accumulate::accumulate(
+    let _ = plane_moments::accumulate::accumulate(
         1,
         &frames,
         &fixed,
@@ -254,7 +252,7 @@ fn linearize(rt: &impl Print) -> io::Result<()> {
     let ds = UPRIGHT;
     let mut residual = [0.0; 8];
     let mut jacobian = [0.0; 8];
-    plane_moments::linearize::linearize(
+    let _ = plane_moments::linearize::linearize(
         1,
         &frames,
         &fixed,
