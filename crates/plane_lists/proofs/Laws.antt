@@ -6,7 +6,7 @@ use lib.Dec.{eqb}
 use lib.ListN.{length}
 use lib.Ieee.{Float}
 use Rattle.std.specs.Prelude.{Ok, Err}
-use Rattle.refusals.specs.Refusal.{wrong_length, Answered, refused, accepted}
+use Rattle.refusals.specs.Refusal.{wrong_length, Answered, accepted}
 use Rattle.refusals.specs.Number.{number_of}
 use Rattle.refusals.specs.declared.Refusal.{Refusal}
 use Rattle.plane.specs.declared.Plane.{Plane}
@@ -24,19 +24,19 @@ tested_err true x k e h = cc
 tested_err false x k e h = (refl, cc)
 
 module _ (n : List Float) (d : Float) (old : List Float) (three : eqb (length n) 3 ≡ true) (four : eqb (length old) PLANE ≡ true) where
-  pub new-refused : (e : Refusal) → Err e ≡ plane_new n d → Answered (new_refusal n old) (number_of e) old old (new_plane n d)
+  pub new-refused : (e : Refusal) → Err e ≡ plane_new n d → new_refusal n old ≡ number_of e
   unfolding new_refusal plane_new
-  new-refused e h = let no = tested_err _ _ _ _ h in rw no.1 (refused (rw (three, four, no.0)))
+  new-refused e h = let no = tested_err _ _ _ _ h in rw (three, four, no.0, no.1)
 
   pub new-made : (p : Plane) → Ok p ≡ plane_new n d → Answered (new_refusal n old) 0 old (plane_list p) (new_plane n d)
   unfolding new_refusal new_plane plane_new
   new-made p h = let yes = tested_ok _ _ _ _ h in accepted (rw (three, four, yes.0)) (rw yes.1)
 
-module _ (x : Inputs) (old : Float) (fits : wrong_length (lengths x) ≡ false) where
-  pub sigma-refused : (e : Refusal) → Err e ≡ deviation (variance_of x) → Answered (sigma_refusal x) (number_of e) old old (sigma x)
+module _ (x : Inputs) (fits : wrong_length (lengths x) ≡ false) where
+  pub sigma-refused : (e : Refusal) → Err e ≡ deviation (variance_of x) → sigma_refusal x ≡ number_of e
   unfolding sigma_refusal deviation
-  sigma-refused e h = let no = tested_err _ _ _ _ h in rw no.1 (refused (rw (fits, no.0)))
+  sigma-refused e h = let no = tested_err _ _ _ _ h in rw (fits, no.0, no.1)
 
-  pub sigma-found : (y : Float) → Ok y ≡ deviation (variance_of x) → Answered (sigma_refusal x) 0 old y (sigma x)
+  pub sigma-found : (old y : Float) → Ok y ≡ deviation (variance_of x) → Answered (sigma_refusal x) 0 old y (sigma x)
   unfolding sigma_refusal sigma deviation
-  sigma-found y h = let yes = tested_ok _ _ _ _ h in accepted (rw (fits, yes.0)) yes.1
+  sigma-found old y h = let yes = tested_ok _ _ _ _ h in accepted (rw (fits, yes.0)) yes.1

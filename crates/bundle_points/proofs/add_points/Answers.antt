@@ -1,5 +1,5 @@
 -- `bundle_points::add_points` meets its contract: point after point. Assumes nothing.
-use mathlib.Core.Path.{◌≡◌, refl}
+use mathlib.Core.Path.{◌≡◌}
 use native.Mathlib.Omega.{arith}
 use Rattle.sums.specs.Laws.{sum_from_more}
 use Rattle.bundle_points.specs.Points.{point_count, coordinate}
@@ -16,6 +16,3 @@ returns c =
     let at = c.loop-k in
     let e : point_count c.args.list.now ≡ at.k = omega arith in
     rw (e, at.invariant.0, at.invariant.1, at.invariant.2)
-
-pub loop-k-init : goal.loop-k-init
-loop-k-init c = (refl, refl, refl)

@@ -1,9 +1,8 @@
 -- `plane_lists::plane_new` meets its contract: the lengths, then the answer of `plane::Plane::new`. Assumes nothing.
-use mathlib.Core.Path.{◌≡◌, sym, ◌∙◌}
-use borrow.Author.Rules.{rules}
+use mathlib.Core.Path.{sym, ◌∙◌}
 use borrow.Author.Tests.{eq-eqb, ne_eqb}
-use Rattle.std.specs.Prelude.{Err}
 use Rattle.refusals.specs.Refusal.{refused}
+use Rattle.refusals.proofs.Exits.{handed_on}
 use Rattle.plane_lists.specs.Calls.{new_refusal}
 use Rattle.plane_lists.proofs.Laws.{new-refused, new-made}
 use Rattle.plane_lists.proofs.plane_new.Goals as goal
@@ -20,8 +19,7 @@ returns-then-plane-ne-PLANE c =
 pub returns-in_err-new : goal.returns-in_err-new
 returns-in_err-new c =
     let n = c.in-Some.ensures.cases in
-    let e : c.from_residual.result ≡ Err c.in_err-new.field-0.0 = search rules in
-    rw e
+    handed_on c.from_residual.result _ c.from_residual.ensures.1
     (new-refused _ _ _ (eq-eqb _ _ n.long) (eq-eqb _ _ c.if-plane-ne-PLANE.false) _ (rw n.same at (sym c.in_err-new.was ∙ c.new.ensures)))
 
 pub returns : goal.returns

@@ -1,10 +1,9 @@
 -- `plane_lists::point_to_plane_sigma` meets its contract: the lengths, then the answer of `plane::point_to_plane_sigma`. Assumes nothing.
-use mathlib.Core.Path.{◌≡◌, sym, ◌∙◌}
+use mathlib.Core.Path.{sym, ◌∙◌}
 use mathlib.Core.Bool.{or-true}
-use borrow.Author.Rules.{rules}
 use borrow.Author.Tests.{eq-eqb, ne_eqb}
-use Rattle.std.specs.Prelude.{Err}
 use Rattle.refusals.specs.Refusal.{refused}
+use Rattle.refusals.proofs.Exits.{handed_on}
 use Rattle.plane_lists.specs.Calls.{sigma_refusal}
 use Rattle.plane_lists.proofs.Laws.{sigma-refused, sigma-found}
 use Rattle.plane_lists.proofs.point_to_plane_sigma.Goals as goal
@@ -36,10 +35,8 @@ returns-in_default-6 c = refused (rw (ne_eqb _ _ c.in_default.ensures.cases))
 pub returns-in_err-sigma : goal.returns-in_err-sigma
 returns-in_err-sigma c =
     let p = c.in-Some-Some-Some-Some-Some-Some in
-    let e : c.from_residual.result ≡ Err c.in_err-sigma.field-0.0 = search rules in
-    rw e
+    handed_on c.from_residual.result _ c.from_residual.ensures.1
     (sigma-refused
-    _
     _
     (rw (
       eq-eqb _ _ p.ensures.cases.long,
@@ -65,7 +62,6 @@ returns c =
     let p = c.in-Some-Some-Some-Some-Some-Some in
     sigma-found
     _
-    _
     (rw (
       eq-eqb _ _ p.ensures.cases.long,
       eq-eqb _ _ p.ensures'.cases.long,
@@ -74,6 +70,7 @@ returns c =
       eq-eqb _ _ p.ensures''''.cases.long,
       eq-eqb _ _ p.ensures'''''.cases.long,
     ))
+    _
     _
     (rw (
       c.from.ensures,
