@@ -220,9 +220,14 @@ pub fn add_at(
     ensures { Added n at width (block_entry (action_at actions.now k) (frame_at frames.now k) normal weight) (pulled_entry (action_at actions.now k) (frame_at frames.now k) normal s t weight) h.old h.new g.old g.new }
 {
     match width {
+        1 => add_width(h, g, n, at, 1, frames, actions, k, normal, s, t, weight),
+        2 => add_width(h, g, n, at, 2, frames, actions, k, normal, s, t, weight),
         3 => add_width(h, g, n, at, 3, frames, actions, k, normal, s, t, weight),
+        4 => add_width(h, g, n, at, 4, frames, actions, k, normal, s, t, weight),
+        5 => add_width(h, g, n, at, 5, frames, actions, k, normal, s, t, weight),
         6 => add_width(h, g, n, at, 6, frames, actions, k, normal, s, t, weight),
         7 => add_width(h, g, n, at, 7, frames, actions, k, normal, s, t, weight),
+        8 => add_width(h, g, n, at, 8, frames, actions, k, normal, s, t, weight),
         9 => add_width(h, g, n, at, 9, frames, actions, k, normal, s, t, weight),
         _ => add_width(h, g, n, at, width, frames, actions, k, normal, s, t, weight),
     }
