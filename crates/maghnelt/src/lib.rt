@@ -42,35 +42,35 @@ pub fn maghnelt_total_order_key(bits: u64) -> i64
 pub fn maghnelt_moments_from_points(points: &[f64], moments: &mut [f64]) -> u32
     ensures { FromPoints points.now moments.old result moments.new }
 {
-    moment_lists::from_points(points, moments)
+    refusals::told(moment_lists::from_points(points, moments))
 }
 
 // One point more.
 pub fn maghnelt_moments_push(moments: &mut [f64], point: &[f64]) -> u32
     ensures { Pushes moments.old point.now result moments.new }
 {
-    moment_lists::push(moments, point)
+    refusals::told(moment_lists::push(moments, point))
 }
 
 // The points of another set too.
 pub fn maghnelt_moments_merge(moments: &mut [f64], other: &[f64]) -> u32
     ensures { Merges moments.old other.now result moments.new }
 {
-    moment_lists::merge(moments, other)
+    refusals::told(moment_lists::merge(moments, other))
 }
 
 // The moments of the points carried by p -> A p + b.
 pub fn maghnelt_moments_transformed(moments: &[f64], a: &[f64], b: &[f64], out: &mut [f64]) -> u32
     ensures { Transforms moments.now a.now b.now out.old result out.new }
 {
-    moment_lists::transformed(moments, a, b, out)
+    refusals::told(moment_lists::transformed(moments, a, b, out))
 }
 
 // The mean and the scatter, or none.
 pub fn maghnelt_moments_mean_and_scatter(moments: &[f64], out: &mut [f64], found: &mut u32) -> u32
     ensures { FindsMean moments.now out.old found.old result out.new found.new }
 {
-    moment_lists::mean_and_scatter(moments, out, found)
+    refusals::told(moment_lists::mean_and_scatter(moments, out, found))
 }
 
 // The plane of least scatter, or none.
@@ -82,28 +82,28 @@ pub fn maghnelt_moments_plane(
 ) -> u32
     ensures { FindsPlane moments.now decomposition.now out.old found.old result out.new found.new }
 {
-    moment_lists::plane(moments, decomposition, out, found)
+    refusals::told(moment_lists::plane(moments, decomposition, out, found))
 }
 
 // The card of a list of moments, in groups of eight records with their counts first; both as bit patterns.
 pub fn maghnelt_card_write(moments: &[u64], card: &mut [u64]) -> u32
     ensures { Writes moments.now card.old result card.new }
 {
-    cards::card_write(moments, card)
+    refusals::told(cards::card_write(moments, card))
 }
 
 // The list of moments of a card.
 pub fn maghnelt_card_read(card: &[u64], moments: &mut [u64]) -> u32
     ensures { Reads card.now moments.old result moments.new }
 {
-    cards::card_read(card, moments)
+    refusals::told(cards::card_read(card, moments))
 }
 
 // The plane of a normal of any length.
 pub fn maghnelt_plane_new(normal: &[f64], offset: f64, plane: &mut [f64]) -> u32
     ensures { Answered (new_refusal normal.now plane.old) result plane.old plane.new (new_plane normal.now offset) }
 {
-    plane_lists::plane_new(normal, offset, plane)
+    refusals::told(plane_lists::plane_new(normal, offset, plane))
 }
 
 // The standard deviation of a point's distance from a plane.
@@ -118,7 +118,7 @@ pub fn maghnelt_point_to_plane_sigma(
 ) -> u32
     ensures { SigmaAnswered (record { plane = plane.now; centroid = centroid.now; plane_covariance = plane_covariance.now; point_covariance = point_covariance.now; world = world.now; d_world_d_point = d_world_d_point.now }) result sigma.old sigma.new }
 {
-    plane_lists::point_to_plane_sigma(
+    refusals::told(plane_lists::point_to_plane_sigma(
         plane,
         centroid,
         plane_covariance,
@@ -126,14 +126,14 @@ pub fn maghnelt_point_to_plane_sigma(
         world,
         d_world_d_point,
         sigma,
-    )
+    ))
 }
 
 // The map that an index list makes of a map.
 pub fn maghnelt_remap(map: &[u32], list: &[u32], out: &mut [u32]) -> u32
     ensures { Answered (remap_refusal map.now list.now out.old) result out.old out.new (remapped map.now list.now) }
 {
-    normal_blocks::remap(map, list, out)
+    refusals::told(normal_blocks::remap(map, list, out))
 }
 
 // A further transform multiplies that of one word of a map, from the left.
@@ -150,7 +150,7 @@ pub fn maghnelt_transform(
 ) -> u32
     ensures { Multiplied (record { dof = dof; map = map.now; shapes = shapes.now; transforms = transforms.now; place = place; further-shape = further_shape.now; further = further.now }) result out_shapes.old out_transforms.old out_shapes.new out_transforms.new }
 {
-    transform_maps::transform(
+    refusals::told(transform_maps::transform(
         dof,
         map,
         shapes,
@@ -160,7 +160,7 @@ pub fn maghnelt_transform(
         further,
         out_shapes,
         out_transforms,
-    )
+    ))
 }
 
 // The frames of a plane and its fixed set centred, the point total, and whether the fixed set was dropped.
@@ -176,7 +176,7 @@ pub fn maghnelt_frames_build(
 ) -> u32
     ensures { Builds dof frames.now fixed.now sigma centred_frames.old centred_fixed.old points.old fixed_dropped.old result centred_frames.new centred_fixed.new points.new fixed_dropped.new }
 {
-    plane_moments::build::build(
+    refusals::told(plane_moments::build::build(
         dof,
         frames,
         fixed,
@@ -185,7 +185,7 @@ pub fn maghnelt_frames_build(
         centred_fixed,
         points,
         fixed_dropped,
-    )
+    ))
 }
 
 // The same by the survey rule, which refuses a fixed count below 0.
@@ -201,7 +201,7 @@ pub fn maghnelt_frames_build_strict(
 ) -> u32
     ensures { BuildsStrictly dof frames.now fixed.now sigma centred_frames.old centred_fixed.old points.old fixed_dropped.old result centred_frames.new centred_fixed.new points.new fixed_dropped.new }
 {
-    strict_build::build_strict(
+    refusals::told(strict_build::build_strict(
         dof,
         frames,
         fixed,
@@ -210,7 +210,7 @@ pub fn maghnelt_frames_build_strict(
         centred_fixed,
         points,
         fixed_dropped,
-    )
+    ))
 }
 
 // The mean and the scatter of what a plane is fitted to.
@@ -223,7 +223,7 @@ pub fn maghnelt_frames_fit(
 ) -> u32
     ensures { Answered (fit_refusal dof frames.now fixed.now actions.now out.old) result out.old out.new (fit_list frames.now fixed.now actions.now) }
 {
-    plane_fit::fit(dof, frames, fixed, actions, out)
+    refusals::told(plane_fit::fit(dof, frames, fixed, actions, out))
 }
 
 // The cost of the frames and the fixed set under the fitted plane, and each mapped frame's block and vector added to the normal equations.
@@ -241,7 +241,7 @@ pub fn maghnelt_frames_accumulate(
 ) -> u32
     ensures { Accumulated (frames_call (length hessian.old) (length gradient.old) (work dof frames.now fixed.now sigma actions.now decomposition.now map.now)) hessian.old gradient.old cost.old result hessian.new gradient.new cost.new }
 {
-    plane_moments::accumulate::accumulate(
+    refusals::told(plane_moments::accumulate::accumulate(
         dof,
         frames,
         fixed,
@@ -252,7 +252,7 @@ pub fn maghnelt_frames_accumulate(
         hessian,
         gradient,
         cost,
-    )
+    ))
 }
 
 // The same through transforms that lie beside the map.
@@ -272,7 +272,7 @@ pub fn maghnelt_frames_accumulate_transformed(
 ) -> u32
     ensures { Accumulated (transformed_frames_call (length hessian.old) (length gradient.old) (record { work = work dof frames.now fixed.now sigma actions.now decomposition.now map.now; shapes = shapes.now; transforms = transforms.now })) hessian.old gradient.old cost.old result hessian.new gradient.new cost.new }
 {
-    transformed_frames::accumulate::accumulate(
+    refusals::told(transformed_frames::accumulate::accumulate(
         dof,
         frames,
         fixed,
@@ -285,7 +285,7 @@ pub fn maghnelt_frames_accumulate_transformed(
         hessian,
         gradient,
         cost,
-    )
+    ))
 }
 
 // Four residuals for each frame and the fixed set, and their Jacobian by columns.
@@ -301,7 +301,7 @@ pub fn maghnelt_frames_linearize(
 ) -> u32
     ensures { Linearizes dof frames.now fixed.now sigma actions.now decompositions.now residual.old jacobian.old result residual.new jacobian.new }
 {
-    plane_moments::linearize::linearize(
+    refusals::told(plane_moments::linearize::linearize(
         dof,
         frames,
         fixed,
@@ -310,14 +310,14 @@ pub fn maghnelt_frames_linearize(
         decompositions,
         residual,
         jacobian,
-    )
+    ))
 }
 
 // The centroid and the scatter of a bundle's points.
 pub fn maghnelt_bundle_fit(counts: &[u32], points: &[f64], fixed: &[f64], out: &mut [f64]) -> u32
     ensures { Fits counts.now points.now fixed.now out.old result out.new }
 {
-    plane_bundle::fit(counts, points, fixed, out)
+    refusals::told(plane_bundle::fit(counts, points, fixed, out))
 }
 
 // A residual for each point of a bundle, the fixed ones last, and their Jacobian by columns.
@@ -334,7 +334,7 @@ pub fn maghnelt_bundle_linearize(
 ) -> u32
     ensures { BundleLinearizes (record { dof = dof; counts = counts.now; points = points.now; d_state = d_state.now; fixed = fixed.now; sigma = sigma; decomposition = decomposition.now }) residual.old jacobian.old result residual.new jacobian.new }
 {
-    plane_bundle::linearize(
+    refusals::told(plane_bundle::linearize(
         dof,
         counts,
         points,
@@ -344,7 +344,7 @@ pub fn maghnelt_bundle_linearize(
         decomposition,
         residual,
         jacobian,
-    )
+    ))
 }
 
 // The cost of a match list, and its block and vector added to the normal equations.
@@ -359,7 +359,9 @@ pub fn maghnelt_matches_accumulate(
 ) -> u32
     ensures { Accumulated (matches_call (length hessian.old) (length gradient.old) (record { dof = dof; matches = matches.now; action = action.now; map = map.now })) hessian.old gradient.old cost.old result hessian.new gradient.new cost.new }
 {
-    transformed_matches::accumulate_plain(dof, matches, action, map, hessian, gradient, cost)
+    refusals::told(transformed_matches::accumulate_plain(
+        dof, matches, action, map, hessian, gradient, cost,
+    ))
 }
 
 // The same through the transform of word 0.
@@ -376,9 +378,9 @@ pub fn maghnelt_matches_accumulate_transformed(
 ) -> u32
     ensures { Accumulated (transformed_matches_call (length hessian.old) (length gradient.old) (record { work = record { dof = dof; matches = matches.now; action = action.now; map = map.now }; shapes = shapes.now; transforms = transforms.now })) hessian.old gradient.old cost.old result hessian.new gradient.new cost.new }
 {
-    transformed_matches::accumulate(
+    refusals::told(transformed_matches::accumulate(
         dof, matches, action, map, shapes, transforms, hessian, gradient, cost,
-    )
+    ))
 }
 
 // The residual of each match, and their Jacobian by columns.
@@ -391,7 +393,7 @@ pub fn maghnelt_matches_linearize(
 ) -> u32
     ensures { Linearized dof matches.now action.now result residual.old jacobian.old residual.new jacobian.new }
 {
-    map_planes::linearize(dof, matches, action, residual, jacobian)
+    refusals::told(map_planes::linearize(dof, matches, action, residual, jacobian))
 }
 
 // The residual of one match below its chain, and its row.
@@ -406,5 +408,5 @@ pub fn maghnelt_match_linearize(
 ) -> u32
     ensures { OneLinearized (record { dof = dof; matched = matched.now; world = world.now; d_state = d_state.now; d_extrinsic = d_extrinsic.now }) result residual.old row.old residual.new row.new }
 {
-    map_plane::linearize(dof, matched, world, d_state, d_extrinsic, residual, row)
+    refusals::told(map_plane::linearize(dof, matched, world, d_state, d_extrinsic, residual, row))
 }
