@@ -1,9 +1,6 @@
--- `replay::agreeing` is safe and ends. Assumes nothing.
-use Rattle.std.proofs.Common.{◌-◌, ◌≤◌}
+-- No more cases agree than were tried.
+use Rattle.std.proofs.Common.{◌≤◌}
 use Rattle.replay.proofs.agreeing.Given as goal
 
-abbrev pub invariant-loop-k : goal.invariant-loop-k
-invariant-loop-k l = l.k ≤ l.cases
-
-abbrev pub decreases-loop-k : goal.decreases-loop-k
-decreases-loop-k l = l.cases - l.k
+abbrev pub invariant-loop : goal.invariant-loop
+invariant-loop l = l.agree ≤ l.counter
