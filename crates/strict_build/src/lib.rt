@@ -11,7 +11,6 @@ use plane_moments::build::{build_sets, shape_refusal};
 use refusals::Refusal;
 
 // 13: the fixed count is below 0.
-#[tactic(auto, unfolding(crate::specs::Strict::negative))]
 fn is_negative(fixed: &[f64]) -> bool
     requires { (length fixed.now ≡ 0) ⊎ (length fixed.now ≡ MOMENTS) }
     ensures { result ≡ negative fixed.now }
