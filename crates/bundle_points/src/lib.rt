@@ -1,10 +1,10 @@
 // What a plane is fitted to, point by point: the centroid of site points and fixed ones, and their scatter about it.
 #![tactic(auto)]
 
-ghost use Rattle.std.specs.Prelude.{◌≡◌, not, ◌++◌};
+ghost use Rattle.std.specs.Prelude.{◌≡◌, not, ◌++◌, ◌+◌};
 ghost use Rattle.sums.specs.Sum.{tab};
 ghost use Rattle.validate.specs.Finite.{all_finite};
-ghost use Rattle.bundle_points.specs.Points.{coordinate_sum, centroid, scatter};
+ghost use Rattle.bundle_points.specs.Points.{point_count, coordinate_sum, centroid, scatter};
 ghost use Rattle.bundle_points.specs.Steps.{Taken, add_points, add_spread};
 
 // The most points, fixed ones too.
@@ -24,39 +24,6 @@ fn add_points(list: &[f64], from: [f64; 3]) -> [f64; 3]
         z = z + list[at + 2];
     }
     [x, y, z]
-}
-
-// The coordinates' sums over the site points and then the fixed ones.
-pub fn sums(points: &[f64], fixed: &[f64]) -> [f64; 3]
-    requires { Taken points.now fixed.now }
-    ensures { result ≡ tab 3 (coordinate_sum (points.now ++ fixed.now)) }
-{
-    let site = add_points(points, [0.0, 0.0, 0.0]);
-    add_points(fixed, site)
-}
-
-// Some coordinate is not finite. A sum of numbers that are not all finite is not finite either: the points are looked at one by one only where a sum is not.
-pub fn some_not_finite(points: &[f64], fixed: &[f64], sums: [f64; 3]) -> bool
-    requires { Taken points.now fixed.now × (sums ≡ tab 3 (coordinate_sum (points.now ++ fixed.now))) }
-    ensures { result ≡ not (all_finite (points.now ++ fixed.now)) }
-{
-    if validate::all_finite(&sums) {
-        return false;
-    }
-    if validate::all_finite(points) {
-        !validate::all_finite(fixed)
-    } else {
-        true
-    }
-}
-
-// The centroid by the coordinates' sums.
-pub fn centroid(points: &[f64], fixed: &[f64], sums: [f64; 3]) -> [f64; 3]
-    requires { Taken points.now fixed.now × (sums ≡ tab 3 (coordinate_sum (points.now ++ fixed.now))) }
-    ensures { result ≡ centroid (points.now ++ fixed.now) }
-{
-    let n = counts::number(points.len() / 3 + fixed.len() / 3);
-    linear::divided(sums, n)
 }
 
 // The products of the differences to q, added to sums that are there already: the entries (0,0), (0,1), (0,2), (1,1), (1,2) and (2,2).
@@ -87,19 +54,72 @@ fn add_spread(list: &[f64], q: [f64; 3], from: [f64; 6]) -> [f64; 6]
     [xx, xy, xz, yy, yz, zz]
 }
 
-// The scatter about q. The two factors of a product may be swapped, so that six sums serve for nine entries.
-pub fn scatter(points: &[f64], fixed: &[f64], q: [f64; 3]) -> [f64; 9]
-    requires { Taken points.now fixed.now }
-    ensures { result ≡ scatter (points.now ++ fixed.now) q }
-{
-    let site = add_spread(points, q, [0.0, 0.0, 0.0, 0.0, 0.0, 0.0]);
-    let all = add_spread(fixed, q, site);
-    let n = counts::number(points.len() / 3 + fixed.len() / 3);
-    let xx = all[0] / n;
-    let xy = all[1] / n;
-    let xz = all[2] / n;
-    let yy = all[3] / n;
-    let yz = all[4] / n;
-    let zz = all[5] / n;
-    [xx, xy, xz, xy, yy, yz, xz, yz, zz]
+// The points that one call takes, the site points and then the fixed ones, with the sums of their coordinates.
+#[derive(Clone, Copy)]
+pub struct Cloud<'a> {
+    pub site: &'a [f64],
+    pub fixed: &'a [f64],
+    sums: [f64; 3],
+    pub ghost taken: { Taken site.now fixed.now },
+    ghost summed: { sums ≡ tab 3 (coordinate_sum (site.now ++ fixed.now)) },
+}
+
+impl<'a> Cloud<'a> {
+    // The site points are summed first.
+    pub fn new(site: &'a [f64], fixed: &'a [f64]) -> Cloud<'a>
+        requires { Taken site.now fixed.now }
+        ensures { (result.site.now ≡ site.now) × (result.fixed.now ≡ fixed.now) }
+    {
+        let first = add_points(site, [0.0, 0.0, 0.0]);
+        Cloud {
+            site,
+            fixed,
+            sums: add_points(fixed, first),
+        }
+    }
+
+    // How many points there are.
+    pub fn count(&self) -> usize
+        ensures { result ≡ point_count self.now.site.now + point_count self.now.fixed.now }
+    {
+        self.site.len() / 3 + self.fixed.len() / 3
+    }
+
+    // Some coordinate is not finite. A sum of numbers that are not all finite is not finite either: the points are looked at one by one only where a sum
+    // is not.
+    pub fn some_not_finite(&self) -> bool
+        ensures { result ≡ not (all_finite (self.now.site.now ++ self.now.fixed.now)) }
+    {
+        if validate::all_finite(&self.sums) {
+            return false;
+        }
+        if validate::all_finite(self.site) {
+            !validate::all_finite(self.fixed)
+        } else {
+            true
+        }
+    }
+
+    // The centroid by the coordinates' sums.
+    pub fn centroid(&self) -> [f64; 3]
+        ensures { result ≡ centroid (self.now.site.now ++ self.now.fixed.now) }
+    {
+        linear::divided(self.sums, counts::number(self.count()))
+    }
+
+    // The scatter about q. The two factors of a product may be swapped, so that six sums serve for nine entries.
+    pub fn scatter(&self, q: [f64; 3]) -> [f64; 9]
+        ensures { result ≡ scatter (self.now.site.now ++ self.now.fixed.now) q }
+    {
+        let site = add_spread(self.site, q, [0.0, 0.0, 0.0, 0.0, 0.0, 0.0]);
+        let all = add_spread(self.fixed, q, site);
+        let n = counts::number(self.count());
+        let xx = all[0] / n;
+        let xy = all[1] / n;
+        let xz = all[2] / n;
+        let yy = all[3] / n;
+        let yz = all[4] / n;
+        let zz = all[5] / n;
+        [xx, xy, xz, xy, yy, yz, xz, yz, zz]
+    }
 }

@@ -71,7 +71,7 @@ module _ (counts : List ℕ) (dof : ℕ) (state n : List Float) (info : Float) (
 
   -- and the block written to its part of the Jacobian
   pub block_written : (out : List Float) (f at size : ℕ) (new : List Float) → size ≡ dof * rows → new ≡ block_of f → put_mid at size out new ≡ written out at (dof * rows) (λ i. block_number i f)
-  unfolding written put_mid
+  unfolding written
   block_written out f at size new e b =
       rw (e, b, tab-get_or (dof * rows) (block_of f) (length-grid rows dof _), drop-drop (dof * rows) at out)
 

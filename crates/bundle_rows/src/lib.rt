@@ -5,9 +5,10 @@ ghost use Rattle.std.specs.Prelude.{◌≡◌, ◌++◌, ◌+◌, ◌*◌, ◌<�
 ghost use Rattle.sums.specs.Sum.{tab, grid};
 ghost use Rattle.sums.specs.Fill.{written};
 ghost use Rattle.bundle_points.specs.Points.{most_points, point_count};
-ghost use Rattle.bundle_points.specs.Steps.{Taken};
 ghost use Rattle.bundle_rows.specs.Rows.{residual_at, total, jacobian_cell};
 ghost use Rattle.bundle_rows.specs.Steps.{state_cell, Put, Room};
+
+use bundle_points::Cloud;
 
 // From so many rows on a Jacobian is larger than the cache: its rows are then written batch after batch.
 const MANY_ROWS: usize = 4096;
@@ -47,19 +48,12 @@ fn put_residuals(
 }
 
 // The residuals of the site points, and then of the fixed ones.
-pub fn write_residuals(
-    points: &[f64],
-    fixed: &[f64],
-    q: [f64; 3],
-    n: [f64; 3],
-    info: f64,
-    residual: &mut [f64],
-)
-    requires { Taken points.now fixed.now × (length residual.old ≡ point_count points.now + point_count fixed.now) }
-    ensures { residual.new ≡ tab (point_count points.now + point_count fixed.now) (residual_at (points.now ++ fixed.now) q n info) }
+pub fn write_residuals(cloud: &Cloud, q: [f64; 3], n: [f64; 3], info: f64, residual: &mut [f64])
+    requires { length residual.old ≡ point_count cloud.now.site.now + point_count cloud.now.fixed.now }
+    ensures { residual.new ≡ tab (point_count cloud.now.site.now + point_count cloud.now.fixed.now) (residual_at (cloud.now.site.now ++ cloud.now.fixed.now) q n info) }
 {
-    put_residuals(points, q, n, info, 0, residual);
-    put_residuals(fixed, q, n, info, points.len() / 3, residual);
+    put_residuals(cloud.site, q, n, info, 0, residual);
+    put_residuals(cloud.fixed, q, n, info, cloud.site.len() / 3, residual);
 }
 
 // The state columns of the site points, `dof` for each, and what a row makes of them: the plane's normal, and 1 / sigma.

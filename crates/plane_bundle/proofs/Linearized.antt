@@ -20,16 +20,12 @@ use Rattle.bundle_points.specs.Points.{point_count, centroid}
 use Rattle.bundle_rows.specs.Rows.{total, residual_at, jacobian_cell}
 use Rattle.plane_bundle.specs.Calls.{not_finite}
 use Rattle.plane_bundle.specs.Linearize.{Bundle, rows, columns, bad_rows, linearize_refusal, under_plane, linearized}
-use Rattle.plane_bundle.specs.Steps.{linearize_shape, bad_sizes, Fitting}
+use Rattle.plane_bundle.specs.Steps.{linearize_shape, bad_sizes, shape_of, Fitting}
 use Rattle.plane_bundle.proofs.Laws.{shaped, shape-refused, shape_passed}
 
 module _ (b : Bundle) (residuals cells : ℕ) where
-  -- 1 to 5, as the code tests them
-  abbrev pub shape_of : ℕ
-  shape_of = linearize_shape b.dof b.counts b.points b.fixed (bad_sizes b.dof (length b.counts) (total b.counts) (rows b) (length b.d_state) (length b.decomposition) residuals cells)
-
   -- a refusal by one of them is the call's
-  pub refused-shape : (k : ℕ) → (k ≡ 0 → ⊥) → shape_of ≡ k → linearize_refusal b residuals cells ≡ k
+  pub refused-shape : (k : ℕ) → (k ≡ 0 → ⊥) → shape_of b residuals cells ≡ k → linearize_refusal b residuals cells ≡ k
   unfolding linearize_refusal linearize_shape bad_rows bad_sizes
   refused-shape k some h = go (ltb most_dof b.dof) refl
     where
@@ -38,7 +34,7 @@ module _ (b : Bundle) (residuals cells : ℕ) where
       go false e = rw e (shape-refused b.counts b.points b.fixed (bad_rows b residuals cells) (7 when not (finite_positive b.sigma) ∷ []) k some (rw e at h))
 
   -- and without one, 6 and 7 are next
-  pub passed_shape : shape_of ≡ 0 → Fitting b residuals cells × (linearize_refusal b residuals cells ≡ first_of (6 when not_finite b.points b.fixed ∷ 7 when not (finite_positive b.sigma) ∷ []))
+  pub passed_shape : shape_of b residuals cells ≡ 0 → Fitting b residuals cells × (linearize_refusal b residuals cells ≡ first_of (6 when not_finite b.points b.fixed ∷ 7 when not (finite_positive b.sigma) ∷ []))
   unfolding linearize_refusal linearize_shape bad_rows bad_sizes
   passed_shape h =
       let site = total b.counts in

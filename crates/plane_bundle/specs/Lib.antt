@@ -1,4 +1,5 @@
 pub mod Calls
 pub mod Fit
+pub mod Given
 pub mod Linearize
 pub mod Steps

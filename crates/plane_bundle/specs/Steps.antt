@@ -32,6 +32,11 @@ unfoldable pub bad_sizes : ℕ → ℕ → ℕ → ℕ → ℕ → ℕ → ℕ �
 bad_sizes dof frames site rows state patterns residuals cells =
     wrong_length ((state, site * dof * 3) ∷ (patterns, DECOMPOSITION) ∷ (residuals, rows) ∷ []) || (not (eqb cells 0) && not (eqb cells (frames * dof * rows)))
 
+-- 1 to 5 of a call, as the code tests them
+abbrev pub shape_of : Bundle → ℕ → ℕ → ℕ
+shape_of b residuals cells =
+    linearize_shape b.dof b.counts b.points b.fixed (bad_sizes b.dof (length b.counts) (total b.counts) (rows b) (length b.d_state) (length b.decomposition) residuals cells)
+
 -- counts and points that fit together
 pub record Shaped (counts : List ℕ) (points fixed : List Float) : Type 0 where
   pub frames : length counts ≤ most_frames
