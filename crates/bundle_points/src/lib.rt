@@ -17,11 +17,11 @@ fn add_points(list: &[f64], from: [f64; 3]) -> [f64; 3]
     let mut x = from[0];
     let mut y = from[1];
     let mut z = from[2];
-    for k in 0..list.len() / 3 {
-        let at = k * 3;
-        x = x + list[at];
-        y = y + list[at + 1];
-        z = z + list[at + 2];
+    let (points, _) = list.as_chunks::<3>();
+    for p in points {
+        x = x + p[0];
+        y = y + p[1];
+        z = z + p[2];
     }
     [x, y, z]
 }
@@ -39,11 +39,11 @@ fn add_spread(list: &[f64], q: [f64; 3], from: [f64; 6]) -> [f64; 6]
     let mut yy = from[3];
     let mut yz = from[4];
     let mut zz = from[5];
-    for k in 0..list.len() / 3 {
-        let at = k * 3;
-        let x = list[at] - q0;
-        let y = list[at + 1] - q1;
-        let z = list[at + 2] - q2;
+    let (points, _) = list.as_chunks::<3>();
+    for p in points {
+        let x = p[0] - q0;
+        let y = p[1] - q1;
+        let z = p[2] - q2;
         xx = xx + x * x;
         xy = xy + x * y;
         xz = xz + x * z;

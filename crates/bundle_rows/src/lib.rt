@@ -38,11 +38,11 @@ fn put_residuals(
     let n0 = n[0];
     let n1 = n[1];
     let n2 = n[2];
-    for k in 0..list.len() / 3 {
-        let at = k * 3;
-        let x = list[at] - q0;
-        let y = list[at + 1] - q1;
-        let z = list[at + 2] - q2;
+    let (points, _) = list.as_chunks::<3>();
+    for (k, p) in points.iter().enumerate() {
+        let x = p[0] - q0;
+        let y = p[1] - q1;
+        let z = p[2] - q2;
         residual[from + k] = info * (n0 * x + n1 * y + n2 * z);
     }
 }
