@@ -17,6 +17,11 @@ use Rattle.plane_bundle.proofs.linearize.Goals.{Start, In_ok-shape_refusal, Afte
 abbrev handed : Start → Bundle
 handed s = record { dof = s.args.dof; counts = s.args.counts.now; points = s.args.points.now; d_state = s.args.d_state.now; fixed = s.args.fixed.now; sigma = s.args.sigma; decomposition = s.args.decomposition.now }
 
+pub returns-in_err-shape_refusal : goal.returns-in_err-shape_refusal
+returns-in_err-shape_refusal c =
+    handed_on c.from_residual.result _ c.from_residual.ensures.1
+    (refused-shape (handed (goal.at.returns-in_err-shape_refusal c).Start) _ _ _ (some_number _) (sym c.in_err-shape_refusal.ensures))
+
 -- what is known once 1 to 5 are tested
 passed : (e : In_ok-shape_refusal) → let b = handed (goal.at.In_ok-shape_refusal e).Start in
     Fitting b (length e.args.residual.now) (length e.args.jacobian.now)
@@ -27,11 +32,6 @@ passed e = passed_shape (handed (goal.at.In_ok-shape_refusal e).Start) _ _ (sym 
 finite : (r : After-some_not_finite) → not_finite r.args.points.now r.args.fixed.now ≡ r.some_not_finite.result
 unfolding not_finite
 finite r = sym (rw (r.new-cloud.ensures.0, r.new-cloud.ensures.1) at r.some_not_finite.ensures)
-
-pub returns-in_err-shape_refusal : goal.returns-in_err-shape_refusal
-returns-in_err-shape_refusal c =
-    handed_on c.from_residual.result _ c.from_residual.ensures.1
-    (refused-shape (handed (goal.at.returns-in_err-shape_refusal c).Start) _ _ _ (some_number _) (sym c.in_err-shape_refusal.ensures))
 
 pub returns-then-some_not_finite : goal.returns-then-some_not_finite
 returns-then-some_not_finite c =
