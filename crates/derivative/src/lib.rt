@@ -80,6 +80,7 @@ pub fn shifted_row(
 }
 
 // D(k,c), the derivative of entry k of Aᵀn by the state's coordinate c.
+// A longer list serves too, here and below: `&[f64; ACTION]` would ask more of callers.
 pub fn normal_change(x: &[f64], n: [f64; 3], k: usize, c: usize) -> f64
     requires { (k < 3) × (c < 9) × (action_size ≤ length x.now) }
     ensures { result ≡ d_an x.now n k c }

@@ -10,10 +10,9 @@ ghost use Rattle.frame_segment.specs.Steps.{Held};
 ghost use Rattle.frame_blocks.specs.Pulls.{BATCH, PULLS, pull_in, with_pull, Pulled};
 ghost use Rattle.frame_blocks.specs.Frames.{Ready, RunReady, FrameAdded, BatchAdded, PartsAdded, RunAdded, AllAdded};
 
-use derivative::ACTION;
 use frame_cost::Pull;
 use plane::Plane;
-use point_moments::scatter::{CENTRED, Centred};
+use point_moments::scatter::CENTRED;
 
 // What the frames are added by: their lists and the map, the plane, and the weight of its distances.
 #[derive(Clone, Copy)]
@@ -94,8 +93,7 @@ fn fill_pulls(call: &Call, from: usize, size: usize, pulls: &mut [f64; 20])
     ensures { Pulled call.now.frames.now call.now.actions.now call.now.plane.normal call.now.plane.offset call.now.weight from size pulls.new }
 {
     for k in 0..size {
-        let f = Centred::from_list(plane_fit::whole_at(call.frames, CENTRED, from + k));
-        let x = plane_fit::whole_at(call.actions, ACTION, from + k);
+        let (f, x) = plane_fit::frame_and_action(call.frames, call.actions, from + k);
         put_pull(
             pulls,
             k,

@@ -13,7 +13,7 @@ ghost use Rattle.frame_cost.specs.Cost.{weight_of, pull_of, frame_along, fixed_c
 
 use derivative::ACTION;
 use plane::Plane;
-use point_moments::scatter::{CENTRED, Centred};
+use point_moments::scatter::Centred;
 
 // 1 / (sigma·sigma)
 pub fn weight(sigma: f64) -> f64
@@ -42,8 +42,7 @@ fn set_pull(f: Centred, a: [f64; 3], along: f64, weight: f64) -> Pull
 }
 
 // Of a frame that the action x carries into the site.
-pub fn frame_pull(x: &[f64], f: Centred, plane: Plane, weight: f64) -> Pull
-    requires { length x.now ≡ action_size }
+pub fn frame_pull(x: &[f64; ACTION], f: Centred, plane: Plane, weight: f64) -> Pull
     ensures { result ≡ pull_of f (normal_in x.now plane.normal) (frame_along x.now f plane.normal plane.offset) weight }
 {
     let a = frame_normal::normal_in(x, plane.normal);
@@ -68,8 +67,7 @@ fn fill_costs(
     ensures { First size costs.new (λ k. cost_at frames.now actions.now plane.normal plane.offset weight (from + k)) }
 {
     for k in 0..size {
-        let f = Centred::from_list(plane_fit::whole_at(frames, CENTRED, from + k));
-        let x = plane_fit::whole_at(actions, ACTION, from + k);
+        let (f, x) = plane_fit::frame_and_action(frames, actions, from + k);
         let p = frame_pull(x, f, plane, weight);
         costs[k] = p.cost;
     }

@@ -106,7 +106,7 @@ fn put_columns<const COLS: usize>(cells: &mut [f64], k: usize, u: Six, t: &[f64]
 // The part of frame k of the pair, through its transform: its block by columns, its vector, its cost.
 #[inline(always)]
 fn part<const COLS: usize>(
-    x: &[f64],
+    x: &[f64; ACTION],
     f: Centred,
     t: &[f64],
     at: usize,
@@ -115,7 +115,7 @@ fn part<const COLS: usize>(
     k: usize,
     cells: &mut [f64],
 )
-    requires { ((COLS ≡ 3) ⊎ (COLS ≡ 5)) × (length x.now ≡ action_size) × (at + 6 * COLS ≤ length t.now) × (k < 2) × (length cells.old ≡ PARTS COLS) }
+    requires { ((COLS ≡ 3) ⊎ (COLS ≡ 5)) × (at + 6 * COLS ≤ length t.now) × (k < 2) × (length cells.old ≡ PARTS COLS) }
     ensures { Part COLS (entry_from t.now at 6) x.now f plane.normal plane.offset weight k cells.old cells.new }
 {
     let pull = frame_cost::frame_pull(x, f, plane, weight);
@@ -148,8 +148,7 @@ fn parts<const COLS: usize, const N: usize>(
     let mut cells = [0.0; N];
     for q in 0..size {
         let k = q as usize;
-        let f = Centred::from_list(plane_fit::whole_at(frames, CENTRED, k));
-        let x = plane_fit::whole_at(actions, ACTION, k);
+        let (f, x) = plane_fit::frame_and_action(frames, actions, k);
         part::<COLS>(
             x,
             f,

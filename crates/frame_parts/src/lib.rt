@@ -14,7 +14,7 @@ ghost use Rattle.frame_parts.specs.Parts.{BATCH, PART, PARTS, numbers_of, part_o
 use derivative::ACTION;
 use frame_segment::Rows;
 use plane::Plane;
-use point_moments::scatter::{CENTRED, Centred};
+use point_moments::scatter::Centred;
 
 // How many frames' parts are worked out before they are added.
 pub const BATCH: usize = 4;
@@ -27,8 +27,7 @@ pub struct Part {
     pub cost: f64,
 }
 
-fn part_of(x: &[f64], f: Centred, plane: Plane, weight: f64) -> Part
-    requires { length x.now ≡ action_size }
+fn part_of(x: &[f64; ACTION], f: Centred, plane: Plane, weight: f64) -> Part
     ensures { numbers_of result ≡ part_of x.now f plane.normal plane.offset weight }
 {
     let pull = frame_cost::frame_pull(x, f, plane, weight);
@@ -80,8 +79,7 @@ pub fn fill_parts(
     ensures { Beside BATCH PART (λ k. part_at frames.now actions.now plane.normal plane.offset weight (from + k)) size cells.new }
 {
     for k in 0..size {
-        let f = Centred::from_list(plane_fit::whole_at(frames, CENTRED, from + k));
-        let x = plane_fit::whole_at(actions, ACTION, from + k);
+        let (f, x) = plane_fit::frame_and_action(frames, actions, from + k);
         put_part(cells, k, part_of(x, f, plane, weight));
     }
 }

@@ -115,7 +115,7 @@ fn fill_radicands(frames: &[f64], ds: &[u64], from: usize, size: usize, fours: &
     ensures { Radicands frames.now ds.now from size fours.new }
 {
     for k in 0..size {
-        let f = Centred::from_list(plane_fit::whole_at(frames, CENTRED, from + k));
+        let f = Centred::from_list(plane_fit::record::<CENTRED>(frames, from + k));
         let v = radicands(decomposition_at(ds, from + k + 1), f.count);
         put_four(fours, 4 * k, v);
     }

@@ -50,8 +50,15 @@ fn clear_part(out: &mut [f64], at: usize, many: usize)
 }
 
 // Column c of a frame's block.
-fn column(x: &[f64], n: [f64; 3], mean: [f64; 3], root: Root, info: f64, c: usize) -> [f64; 4]
-    requires { (c < 9) × (length x.now ≡ action_size) }
+fn column(
+    x: &[f64; ACTION],
+    n: [f64; 3],
+    mean: [f64; 3],
+    root: Root,
+    info: f64,
+    c: usize,
+) -> [f64; 4]
+    requires { c < 9 }
     ensures { result ≡ column_of x.now n mean root info c }
 {
     let d0 = derivative::normal_change(x, n, 0, c);
@@ -86,8 +93,7 @@ fn fill_residuals(
     ensures { Beside BATCH 4 (λ k. residual_rows frames.now actions.now p (root_in roots.now k) (from + k)) size cells.new }
 {
     for k in 0..size {
-        let f = Centred::from_list(plane_fit::whole_at(frames, CENTRED, from + k));
-        let x = plane_fit::whole_at(actions, ACTION, from + k);
+        let (f, x) = plane_fit::frame_and_action(frames, actions, from + k);
         let mean = f.mean;
         let n = p.plane.normal;
         let along = frame_normal::along(n, p.plane.offset, action::carried(x, mean));
@@ -115,8 +121,7 @@ fn fill_column(
     ensures { Beside BATCH 4 (λ k. column_rows frames.now actions.now p c (root_in roots.now k) (from + k)) size cells.new }
 {
     for k in 0..size {
-        let f = Centred::from_list(plane_fit::whole_at(frames, CENTRED, from + k));
-        let x = plane_fit::whole_at(actions, ACTION, from + k);
+        let (f, x) = plane_fit::frame_and_action(frames, actions, from + k);
         let mean = f.mean;
         let n = p.plane.normal;
         put_rows(

@@ -5,14 +5,13 @@
 ghost use Rattle.std.specs.Prelude.{◌≡◌, ◌+◌, ◌*◌, ◌<◌, ◌≤◌, length};
 ghost use Rattle.sums.specs.Fill.{padded};
 ghost use Rattle.terms.specs.Terms.{add_all, segment, block};
-ghost use Rattle.derivative.specs.Action.{action_size};
 ghost use Rattle.plane_fit.specs.Fit.{frame_at, action_at};
 ghost use Rattle.frame_segment.specs.Columns.{columns};
 ghost use Rattle.frame_segment.specs.Frame.{block_entry, pulled_entry};
 ghost use Rattle.frame_segment.specs.Steps.{frame_rows, column_entry, rows_entry, rows_vector, Added, Held};
 
 use derivative::{ACTION, AXIS_X, AXIS_Y, AXIS_Z, ORIGIN};
-use point_moments::scatter::{CENTRED, Centred};
+use point_moments::scatter::Centred;
 
 // What block and vector of a frame are made of: the three rows of D, the three of P = DᵀS, and m.
 #[derive(Clone, Copy)]
@@ -29,8 +28,8 @@ pub struct Rows {
 impl Rows {
     // Those of a frame that the action x carries into the site, under a plane's normal.
     #[inline(always)]
-    pub fn of_frame(x: &[f64], f: Centred, normal: [f64; 3], width: usize) -> Rows
-        requires { (width ≤ 9) × (action_size ≤ length x.now) }
+    pub fn of_frame(x: &[f64; ACTION], f: Centred, normal: [f64; 3], width: usize) -> Rows
+        requires { width ≤ 9 }
         ensures { result ≡ frame_rows x.now f normal width }
     {
         let c = f.scatter;
@@ -194,8 +193,7 @@ fn add_width(
     requires { (width ≤ 9) × (at + width ≤ n) × (length h.old ≡ n * n) × (length g.old ≡ n) × Held frames.now actions.now k }
     ensures { Added n at width (block_entry (action_at actions.now k) (frame_at frames.now k) normal weight) (pulled_entry (action_at actions.now k) (frame_at frames.now k) normal s t weight) h.old h.new g.old g.new }
 {
-    let f = Centred::from_list(plane_fit::whole_at(frames, CENTRED, k));
-    let x = plane_fit::whole_at(actions, ACTION, k);
+    let (f, x) = plane_fit::frame_and_action(frames, actions, k);
     let r = Rows::of_frame(x, f, normal, width);
     add_block(h, n, at, width, &r, f.count, weight);
     add_vector(g, at, width, &r, s, t, weight);

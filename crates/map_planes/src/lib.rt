@@ -89,10 +89,11 @@ pub fn linearize(
     let width = dof as usize;
     let misfit = bad_outputs(matches.len() / MATCH, width, residual.len(), jacobian.len());
     matches_refusal(dof, matches, misfit, action)?;
+    let x = action.as_array::<ACTION>().unwrap();
     if jacobian.len() == 0 {
-        match_columns::write_residuals(matches, action, residual);
+        match_columns::write_residuals(matches, x, residual);
         return Ok(());
     }
-    match_columns::jacobian(matches, action, width, residual, jacobian);
+    match_columns::jacobian(matches, x, width, residual, jacobian);
     Ok(())
 }

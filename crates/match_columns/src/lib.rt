@@ -5,18 +5,18 @@
 
 ghost use Rattle.std.specs.Prelude.{◌≡◌, ◌+◌, ◌*◌, ◌/◌, ◌<◌, ◌≤◌, length};
 ghost use Rattle.sums.specs.Sum.{grid};
-ghost use Rattle.derivative.specs.Action.{action_size};
 ghost use Rattle.map_plane.specs.Match.{MATCH};
 ghost use Rattle.match_rows.specs.Row.{row_at};
 ghost use Rattle.match_rows.specs.ByRows.{row_by};
 ghost use Rattle.match_columns.specs.Columns.{Put, Grown};
 ghost use Rattle.match_columns.specs.Residuals.{rows_by, residuals};
 
+use derivative::ACTION;
 use map_plane::{MATCH, Match};
 
 // The residual of each match.
-pub fn write_residuals(list: &[f64], x: &[f64], residual: &mut [f64])
-    requires { (length x.now ≡ action_size) × (length residual.old ≡ length list.now / MATCH) }
+pub fn write_residuals(list: &[f64], x: &[f64; ACTION], residual: &mut [f64])
+    requires { length residual.old ≡ length list.now / MATCH }
     ensures { residual.new ≡ residuals x.now list.now }
 {
     for k in 0..list.len() / MATCH {
@@ -48,12 +48,12 @@ fn put_entries(
 fn write_first<const W: usize>(
     list: &[f64],
     rows: usize,
-    x: &[f64],
+    x: &[f64; ACTION],
     t: &[f64; 108],
     residual: &mut [f64],
     out: &mut [f64],
 )
-    requires { (rows ≡ length list.now / MATCH) × (length x.now ≡ action_size) × (length residual.old ≡ rows) × (3 ≤ W) × (W ≤ 9) × (W * rows ≤ length out.old) }
+    requires { (rows ≡ length list.now / MATCH) × (length residual.old ≡ rows) × (3 ≤ W) × (W ≤ 9) × (W * rows ≤ length out.old) }
     ensures { (residual.new ≡ residuals x.now list.now) × Grown rows 0 W (rows_by t.now list.now) out.old out.new }
 {
     let a = action::matrix(x);
@@ -89,13 +89,13 @@ fn write_columns<const W: usize>(
 fn begin(
     list: &[f64],
     rows: usize,
-    x: &[f64],
+    x: &[f64; ACTION],
     t: &[f64; 108],
     dof: usize,
     residual: &mut [f64],
     out: &mut [f64],
 ) -> usize
-    requires { (rows ≡ length list.now / MATCH) × (length x.now ≡ action_size) × (length residual.old ≡ rows) × (length out.old ≡ dof * rows) }
+    requires { (rows ≡ length list.now / MATCH) × (length residual.old ≡ rows) × (length out.old ≡ dof * rows) }
     ensures { (result ≤ dof) × (residual.new ≡ residuals x.now list.now) × Grown rows 0 result (rows_by t.now list.now) out.old out.new }
 {
     if dof == 7 {
@@ -135,8 +135,8 @@ fn write_next(
 }
 
 // The residuals, and the rows of a list's matches as a matrix.
-pub fn jacobian(list: &[f64], x: &[f64], dof: usize, residual: &mut [f64], out: &mut [f64])
-    requires { (length x.now ≡ action_size) × (dof ≤ 9) × (length residual.old ≡ length list.now / MATCH) × (length out.old ≡ dof * (length list.now / MATCH)) }
+pub fn jacobian(list: &[f64], x: &[f64; ACTION], dof: usize, residual: &mut [f64], out: &mut [f64])
+    requires { (dof ≤ 9) × (length residual.old ≡ length list.now / MATCH) × (length out.old ≡ dof * (length list.now / MATCH)) }
     ensures { (residual.new ≡ residuals x.now list.now) × (out.new ≡ grid (length list.now / MATCH) dof (row_at x.now list.now)) }
 {
     let rows = list.len() / MATCH;

@@ -4,17 +4,15 @@
 ghost use Rattle.std.specs.Prelude.{◌≡◌, ℕ, ◌+◌, ◌*◌, ◌≤◌, ◌<◌, length};
 ghost use Rattle.sums.specs.Sum.{tab};
 ghost use Rattle.sums.specs.Fill.{First};
-ghost use Rattle.derivative.specs.Action.{action_size};
 ghost use Rattle.map_plane.specs.Match.{MATCH};
 ghost use Rattle.match_rows.specs.Row.{residual_of, residual_at, information_at};
 ghost use Rattle.match_rows.specs.ByRows.{by_rows, row_by, row_by_at};
 
-use derivative::ORIGIN;
+use derivative::{ACTION, ORIGIN};
 use map_plane::{MATCH, Match};
 
 // The distance from the plane of the point that the action carries into the site, times information.
-pub fn residual(x: &[f64], m: Match, info: f64) -> f64
-    requires { length x.now ≡ action_size }
+pub fn residual(x: &[f64; ACTION], m: Match, info: f64) -> f64
     ensures { result ≡ residual_of x.now m.point m.plane.normal m.plane.offset info }
 {
     let w = action::carried(x, m.point);
@@ -22,8 +20,7 @@ pub fn residual(x: &[f64], m: Match, info: f64) -> f64
 }
 
 // The four matrices of an action's derivative by rows: the numbers that the row's loop reads are then neighbours.
-pub fn by_rows(x: &[f64]) -> [f64; 108]
-    requires { length x.now ≡ action_size }
+pub fn by_rows(x: &[f64; ACTION]) -> [f64; 108]
     ensures { result ≡ by_rows x.now }
 {
     let mut t = [0.0; 108];
@@ -82,8 +79,8 @@ pub fn row<const W: usize>(t: &[f64; 108], m: Match, info: f64) -> [f64; W]
 }
 
 // The residual of match k.
-pub fn residual_at(list: &[f64], k: usize, x: &[f64]) -> f64
-    requires { (k * MATCH + MATCH ≤ length list.now) × (length x.now ≡ action_size) }
+pub fn residual_at(list: &[f64], k: usize, x: &[f64; ACTION]) -> f64
+    requires { k * MATCH + MATCH ≤ length list.now }
     ensures { result ≡ residual_at x.now list.now k }
 {
     let m = Match::read(list, k * MATCH);

@@ -6,7 +6,6 @@ ghost use Rattle.std.specs.Prelude.{◌≡◌, ℕ, ◌+◌, ◌*◌, ◌/◌, �
 ghost use Rattle.sums.specs.Sum.{◌⊗◌, zero_f, sum_from, grid};
 ghost use Rattle.sums.specs.Fill.{First};
 ghost use Rattle.lists.specs.Part.{◌!◌};
-ghost use Rattle.derivative.specs.Action.{action_size};
 ghost use Rattle.map_plane.specs.Match.{MATCH};
 ghost use Rattle.match_rows.specs.Row.{residual_at, information_at};
 ghost use Rattle.match_rows.specs.ByRows.{by_rows, row_by_at};
@@ -15,6 +14,7 @@ ghost use Rattle.match_sums.specs.Cells.{squares, slants, Added, Summed, Raised,
 ghost use Rattle.match_sums.specs.Batch.{batch_cost, batch_block, batch_vector};
 ghost use Rattle.match_sums.specs.Sums.{SumsAre};
 
+use derivative::ACTION;
 use map_plane::MATCH;
 
 // How many matches are summed before their sum is added.
@@ -24,9 +24,8 @@ pub const GROUP: usize = 512;
 #[derive(Clone, Copy)]
 struct Listed<'a> {
     list: &'a [f64],
-    action: &'a [f64],
+    action: &'a [f64; ACTION],
     rows: &'a [f64; 108],
-    ghost whole: { length action.now ≡ action_size },
     ghost rows_are: { rows.now ≡ by_rows action.now },
 }
 
@@ -247,8 +246,8 @@ pub struct MatchSums {
 }
 
 // What a match list sums to: the block by columns of nine numbers, of which the first `dof` count.
-pub fn match_sums(list: &[f64], x: &[f64], dof: usize) -> MatchSums
-    requires { (length x.now ≡ action_size) × (dof ≤ 9) }
+pub fn match_sums(list: &[f64], x: &[f64; ACTION], dof: usize) -> MatchSums
+    requires { dof ≤ 9 }
     ensures { SumsAre x.now list.now dof result }
 {
     let t = match_rows::by_rows(x);
@@ -271,8 +270,8 @@ pub fn match_sums(list: &[f64], x: &[f64], dof: usize) -> MatchSums
 }
 
 // The sum of the squared residuals of `size` matches from `from` on.
-fn group_cost(list: &[f64], from: usize, size: usize, x: &[f64]) -> f64
-    requires { ((from + size) * MATCH ≤ length list.now) × (length x.now ≡ action_size) }
+fn group_cost(list: &[f64], from: usize, size: usize, x: &[f64; ACTION]) -> f64
+    requires { (from + size) * MATCH ≤ length list.now }
     ensures { result ≡ sum_from zero_f size (λ k. cost_term x.now list.now (from + k)) }
 {
     let mut cost = 0.0;
@@ -284,8 +283,7 @@ fn group_cost(list: &[f64], from: usize, size: usize, x: &[f64]) -> f64
 }
 
 // The cost alone, by groups: the same number without rows and blocks.
-pub fn cost(list: &[f64], x: &[f64]) -> f64
-    requires { length x.now ≡ action_size }
+pub fn cost(list: &[f64], x: &[f64; ACTION]) -> f64
     ensures { result ≡ list_cost x.now list.now }
 {
     let n = list.len() / MATCH;

@@ -1,6 +1,7 @@
 -- Record k of a lent list of records of one size. Definitions and their laws; assumes nothing.
-use Rattle.std.specs.Prelude.{◌≡◌, cond, List, [], ℕ, suc, ◌+◌, ◌*◌, ◌≤◌, ◌<◌, ◌/◌, leb, length, take, drop, get_or, Float}
-use Rattle.std.proofs.Common.{le-div_iff_mul-le, div-lt_iff_lt-mul, suc-mul, mul_comm, arith, length-take, length-drop, get_or-take, get_or-drop, le-leb}
+use Rattle.std.specs.Prelude.{◌≡◌, cond, List, [], ℕ, zero, suc, ◌+◌, ◌*◌, ◌≤◌, ◌<◌, ◌/◌, leb, length, take, drop, get_or, Float}
+use Rattle.std.specs.Simd.{first_chunks}
+use Rattle.std.proofs.Common.{◌∙◌, not-suc-le-zero, mul-zero, drop-drop, le-div_iff_mul-le, div-lt_iff_lt-mul, suc-mul, mul_comm, arith, length-take, length-drop, get_or-take, get_or-drop, le-leb}
 use Rattle.std.specs.Float.{nan}
 
 -- "the thirteen numbers of frame k come back as a part of the lent slice, an empty part if the list ends before frame k does (k from 0)"
@@ -29,3 +30,11 @@ module _ (size : ℕ) (l : List Float) (k : ℕ) (whole : size * k + size ≤ le
 
   pub record_at : (i : ℕ) → i < size → get_or (record_of size l k) i nan ≡ get_or l (size * k + i) nan
   record_at i h = rw (record_is, get_or-take, get_or-drop)
+
+-- record k of a list that is cut into records
+pub record_among : (size count : ℕ) (l : List Float) (k : ℕ) → k < count → get_or (first_chunks size count l) k [] ≡ take size (drop (size * k) l)
+record_among size zero l k h = absurd (not-suc-le-zero h)
+record_among size (suc n) l zero h = rw mul-zero
+record_among size (suc n) l (suc k) h =
+    let e : size * suc k ≡ size + size * k = omega (arith, suc-mul k size, mul_comm size (suc k), mul_comm size k) in
+    record_among size n (drop size l) k (omega arith) ∙ rw (drop-drop, e)

@@ -12,7 +12,7 @@ ghost use Rattle.derivative.specs.Action.{action_size};
 ghost use Rattle.point_moments.specs.Scatter.{CENTRED};
 ghost use Rattle.plane_fit.specs.Records.{record_of};
 ghost use Rattle.plane_fit.specs.Parts.{BATCH, COLUMNS, part_of, Put, Held, with_parts};
-ghost use Rattle.plane_fit.specs.Fit.{Shaped, frame_count, centre, turned, spread, fit_mean, scatter_about, fit_list};
+ghost use Rattle.plane_fit.specs.Fit.{Shaped, frame_count, frame_at, action_at, centre, turned, spread, fit_mean, scatter_about, fit_list};
 ghost use Rattle.plane_fit.specs.Calls.{bad_records, bad_frames, bad_fixed, bad_count, bad_actions, fit_refusal};
 ghost use Rattle.plane_fit.specs.Steps.{with_set, weighed, difference, spread_upto, mean_of};
 
@@ -23,26 +23,41 @@ use refusals::Refusal;
 // The most frames of one plane.
 pub const MOST_FRAMES: usize = 256;
 
-// Record k of a list of records of so many numbers, as a part of the list, which holds it whole: a loop over records needs no test in each turn.
-pub fn whole_at(list: &[f64], size: usize, k: usize) -> &[f64]
-    requires { size * k + size ≤ length list.now }
-    ensures { result.now ≡ record_of size list.now k }
+// Record k of a list of records of N numbers, which holds it whole: a loop over records needs no test in each turn.
+#[inline(always)]
+pub fn record<const N: usize>(list: &[f64], k: usize) -> &[f64; N]
+    requires { (0 < N) × (N * k + N ≤ length list.now) }
+    ensures { result.now ≡ record_of N list.now k }
 {
-    let at = size * k;
-    let end = at + size;
-    &list[at..end]
+    &list.as_chunks::<N>().0[k]
 }
 
-// The same of any list: an empty part if the list ends before the record does.
+// Record k of a list of records of so many numbers, as a part of the list: an empty part if the list ends before the record does.
 pub fn record_at(list: &[f64], size: usize, k: usize) -> &[f64]
     requires { 0 < size }
     ensures { result.now ≡ record_of size list.now k }
 {
     if k < list.len() / size {
-        whole_at(list, size, k)
-    } else {
-        &list[0..0]
+        let at = size * k;
+        return &list[at..at + size];
     }
+    &list[0..0]
+}
+
+// Frame k and its action, of lists that hold both whole.
+#[inline(always)]
+pub fn frame_and_action<'a>(
+    frames: &[f64],
+    actions: &'a [f64],
+    k: usize,
+) -> (Centred, &'a [f64; ACTION])
+    requires { (CENTRED * k + CENTRED ≤ length frames.now) × (action_size * k + action_size ≤ length actions.now) }
+    ensures { (result.0 ≡ frame_at frames.now k) × (result.1.now ≡ action_at actions.now k) }
+{
+    (
+        Centred::from_list(record::<CENTRED>(frames, k)),
+        record(actions, k),
+    )
 }
 
 // The numbers of frame k.
@@ -53,8 +68,7 @@ pub fn frame(frames: &[f64], k: usize) -> &[f64]
 }
 
 // A·mean + b: the frame's mean carried into the site by the action x.
-pub fn centre(x: &[f64], f: Centred) -> [f64; 3]
-    requires { length x.now ≡ action_size }
+pub fn centre(x: &[f64; ACTION], f: Centred) -> [f64; 3]
     ensures { result ≡ centre x.now f }
 {
     let mean = f.mean;
@@ -89,15 +103,15 @@ impl Weighted {
     }
 }
 
-// The frames weighed. The loop ends by the test that `frame` makes, so that the compiler drops the latter.
+// The frames weighed.
 fn weigh(frames: &[f64], actions: &[f64]) -> Weighted
     requires { action_size * frame_count frames.now ≤ length actions.now }
     ensures { result ≡ weighed frames.now actions.now (frame_count frames.now) }
 {
     let mut s = Weighted::default();
     for k in 0..frames.len() / CENTRED {
-        let f = Centred::from_list(frame(frames, k));
-        let w = centre(whole_at(actions, ACTION, k), f);
+        let (f, x) = frame_and_action(frames, actions, k);
+        let w = centre(x, f);
         s = s.with_set(w, f.count);
     }
     s
@@ -125,8 +139,7 @@ fn turn(a: [f64; 9], s: [f64; 9]) -> [f64; 9]
 }
 
 // The same of a frame that the action x carries into the site: its scatter turned, A.S.Aᵀ, and its mean moved.
-fn spread_of(x: &[f64], f: Centred, mean: [f64; 3]) -> [f64; 9]
-    requires { length x.now ≡ action_size }
+fn spread_of(x: &[f64; ACTION], f: Centred, mean: [f64; 3]) -> [f64; 9]
     ensures { result ≡ grid 3 3 (spread (turned x.now f) (centre x.now f) f.count mean) }
 {
     let s = f.scatter;
@@ -197,8 +210,8 @@ fn fill_parts(
     ensures { Held frames.now actions.now mean from size a.new b.new c.new }
 {
     for k in 0..size {
-        let f = Centred::from_list(whole_at(frames, CENTRED, from + k));
-        let part = spread_of(whole_at(actions, ACTION, from + k), f, mean);
+        let (f, x) = frame_and_action(frames, actions, from + k);
+        let part = spread_of(x, f, mean);
         put_column(a, k, [part[0], part[1], part[2]]);
         put_column(b, k, [part[3], part[4], part[5]]);
         put_column(c, k, [part[6], part[7], part[8]]);

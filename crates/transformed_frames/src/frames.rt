@@ -14,7 +14,7 @@ use block_transforms::{Shape, TRANSFORM};
 use derivative::ACTION;
 use frame_cost::Pull;
 use plane::Plane;
-use point_moments::scatter::{CENTRED, Centred};
+use point_moments::scatter::CENTRED;
 
 // The numbers from one row of a stored block to the next: eight of a frame of six columns, whose loops are unrolled.
 fn stride_of(dof: usize) -> usize
@@ -102,8 +102,7 @@ fn pull_at(frames: &[f64], actions: &[f64], k: usize, plane: Plane, weight: f64)
     requires { Held frames.now actions.now k }
     ensures { result ≡ pull_at frames.now actions.now plane.normal plane.offset weight k }
 {
-    let f = Centred::from_list(plane_fit::whole_at(frames, CENTRED, k));
-    let x = plane_fit::whole_at(actions, ACTION, k);
+    let (f, x) = plane_fit::frame_and_action(frames, actions, k);
     frame_cost::frame_pull(x, f, plane, weight)
 }
 

@@ -9,6 +9,7 @@ ghost use Rattle.call_lists.specs.Accumulated.{Accumulated};
 ghost use Rattle.map_planes.specs.Accumulate.{transformed_matches_call, matches_call};
 ghost use Rattle.transformed_matches.specs.Steps.{There, Ready, SumsAdded, ListAdded};
 
+use derivative::ACTION;
 use refusals::Refusal;
 
 // A block by columns and a vector, of `width` rows, are added at row `at`, through the transform of word 0 if it has one.
@@ -46,7 +47,7 @@ fn add_sums(
 fn add_list(
     width: usize,
     list: &[f64],
-    x: &[f64],
+    x: &[f64; ACTION],
     map: &[u32],
     shapes: &[u32],
     transforms: &[f64],
@@ -89,8 +90,9 @@ pub fn accumulate(
     map_planes::matches_refusal(dof, matches, target | slices, action)?;
     let width = dof as usize;
     block_transforms::through_refusal(map, shapes, 1, width, n)?;
+    let x = action.as_array::<ACTION>().unwrap();
     *cost = add_list(
-        width, matches, action, map, shapes, transforms, hessian, gradient,
+        width, matches, x, map, shapes, transforms, hessian, gradient,
     );
     Ok(())
 }

@@ -5,18 +5,11 @@ use native.Mathlib.Nat.{not-suc-le-zero}
 use native.Mathlib.Omega.{arith}
 use borrow.Author.Rules.{rules}
 use Rattle.sums.specs.Fill.{first_more}
-use Rattle.plane_fit.specs.Records.{record_length}
 use Rattle.frame_cost.specs.Cost.{frame_cost, cost_at}
 use Rattle.frame_cost.proofs.fill_costs.Goals as goal
 
 pub loop-k-init : goal.loop-k-init
 loop-k-init c = (search rules, λ k h. absurd (not-suc-le-zero h))
-
-pub from_list-f-requires : goal.from_list-f-requires
-from_list-f-requires c = rw c.whole_at.ensures (record_length 13 _ _ (omega arith))
-
-pub frame_pull-p-requires : goal.frame_pull-p-requires
-frame_pull-p-requires c = rw c.whole_at-x.ensures (record_length 120 _ _ (omega arith))
 
 pub loop-k-preserved : goal.loop-k-preserved
 unfolding cost_at frame_cost
@@ -24,7 +17,7 @@ loop-k-preserved c =
     let at = c.loop-k in
     let a = c.args in
     let cost = cost_at a.frames.now a.actions.now a.plane.normal a.plane.offset a.weight (a.from + at.k) in
-    let stored : c.frame_pull-p.result.cost ≡ cost = rw (c.frame_pull-p.ensures, c.whole_at-x.ensures, c.from_list-f.ensures, c.whole_at.ensures) in
+    let stored : c.frame_pull-p.result.cost ≡ cost = rw (c.frame_pull-p.ensures, c.frame_and_action.ensures.1, c.frame_and_action.ensures.0) in
     (search rules, first_more at.costs _ at.k _ (omega arith) stored at.invariant.1)
 
 pub returns : goal.returns

@@ -31,7 +31,7 @@ returns g c =
     let u = of_six c.left-u0.result c.left-u1.result c.left-u2.result c.left-u3.result c.left-u4.result c.left-u5.result in
     let us = six (λ q. (i : ℕ) → i < cols → u q ! i ≡ left_product 6 t block i q) u0 u1 u2 u3 u4 u5 in
     let v = vector_left 6 t cols (vector_entry a.x.now a.f n offset a.weight) c.vector-w.result (pulled_is a.x.now n a.f hr a.weight offset pull c.vector-w.ensures) c.left.ensures in
-    let all = part_all cols a.k _ _ _ _ _ _ _ _ refl refl pre.3 pre.4 (omega (arith, pre.3)) c.put_columns.ensures c.put.ensures v in
+    let all = part_all cols a.k _ _ _ _ _ _ _ _ refl refl pre.2 pre.3 (omega (arith, pre.2)) c.put_columns.ensures c.put.ensures v in
     record {
       long = all.long;
       holds = record { block = λ i j li lj. all.block i j li lj ∙ block_is 6 cols t block u us i j li; vector = all.vector; cost = all.cost ∙ cost_is a.x.now n a.f offset a.weight pull };

@@ -2,14 +2,10 @@
 use Prim.Native.Nat.{◌+◌}
 use mathlib.Core.Path.{◌≡◌}
 use native.Mathlib.Omega.{arith}
-use Rattle.plane_fit.specs.Records.{record_length}
 use Rattle.plane_fit.specs.Fit.{frame_at}
 use Rattle.frame_roots.specs.Batch.{radicands_more}
 use Rattle.frame_roots.specs.Roots.{radicands_of, decomposition_at, decomposition_whole}
 use Rattle.frame_roots.proofs.fill_radicands.Goals as goal
-
-pub from_list-f-requires : goal.from_list-f-requires
-from_list-f-requires c = rw c.whole_at.ensures (record_length 13 _ _ (omega arith))
 
 pub radicands-v-requires : goal.radicands-v-requires
 radicands-v-requires c =
@@ -21,5 +17,5 @@ loop-k-preserved c =
     let l = c.loop-k in
     let a = c.args in
     let is : c.radicands-v.result ≡ radicands_of (decomposition_at a.ds.now (a.from + l.k + 1)) (frame_at a.frames.now (a.from + l.k)).count
-    = rw (c.radicands-v.ensures, c.decomposition_at.ensures, c.from_list-f.ensures, c.whole_at.ensures) in
+    = rw (c.radicands-v.ensures, c.decomposition_at.ensures, c.from_list-f.ensures, c.record.ensures) in
     radicands_more _ _ _ (omega arith) is c.put_four.ensures l.invariant

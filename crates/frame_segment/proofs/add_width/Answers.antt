@@ -1,14 +1,8 @@
 -- `frame_segment::add_width` meets its contract: of the frame's rows, block and vector are the frame's. Assumes nothing.
-use borrow.Author.Rules.{rules}
-use Rattle.frame_segment.specs.Steps.{frame_whole, action_long, adds}
+use mathlib.Core.Path.{refl}
+use Rattle.frame_segment.specs.Steps.{adds}
 use Rattle.frame_segment.proofs.add_width.Goals as goal
-
-pub from_list-f-requires : goal.from_list-f-requires
-from_list-f-requires c = search (rules, frame_whole)
-
-pub of_frame-r-requires : goal.of_frame-r-requires
-of_frame-r-requires c = search (rules, action_long)
 
 pub returns : goal.returns
 returns c =
-    adds _ _ _ _ _ _ _ c.whole_at.ensures c.from_list-f.ensures c.whole_at-x.ensures c.of_frame-r.ensures c.add_block.ensures c.add_vector.ensures
+    adds _ _ _ _ _ _ _ refl c.frame_and_action.ensures.0 c.frame_and_action.ensures.1 c.of_frame-r.ensures c.add_block.ensures c.add_vector.ensures

@@ -9,7 +9,7 @@ use Rattle.match_columns.proofs.jacobian.Goals as goal
 pub loop-c-init : goal.loop-c-init
 loop-c-init c =
     let told = c.begin-c.ensures in
-    (told.0, told.2.size ∙ c.requires.3, done_more _ _ _ _ _ _ told.2 (done_none _ _ _))
+    (told.0, told.2.size ∙ c.requires.2, done_more _ _ _ _ _ _ told.2 (done_none _ _ _))
 
 pub loop-c-preserved : goal.loop-c-preserved
 loop-c-preserved c =
@@ -22,10 +22,10 @@ returns c =
     let at = c.loop-c in
     let a = c.args in
     let e : at.c ≡ a.dof = omega arith in
-    (c.begin-c.ensures.1, rows_all a.x.now _ a.list.now at.out _ a.dof c.by_rows-t.ensures c.requires.1 at.invariant.1 (rw e at at.invariant.2))
+    (c.begin-c.ensures.1, rows_all a.x.now _ a.list.now at.out _ a.dof c.by_rows-t.ensures c.requires.0 at.invariant.1 (rw e at at.invariant.2))
 
 pub begin-c-requires : goal.begin-c-requires
-begin-c-requires c = (search rules, search rules, search rules, search rules)
+begin-c-requires c = (search rules, search rules, search rules)
 
 pub write_next-c-requires : goal.write_next-c-requires
 write_next-c-requires c = (omega arith, search rules, search rules, search rules)

@@ -12,7 +12,7 @@ use Rattle.match_columns.specs.Residuals.{rows_by, begun_none, begun_more, begun
 use Rattle.match_columns.proofs.write_first.Goals as goal
 
 pub loop-k-init : goal.loop-k-init
-loop-k-init g c = begun_none _ _ _ _ g.row.W c.args.residual.now _ c.requires.2
+loop-k-init g c = begun_none _ _ _ _ g.row.W c.args.residual.now _ c.requires.1
 
 -- a column before another is within the matrix
 within : (c w n rows l : ℕ) → c + w ≤ n → n * rows ≤ l → (c + w) * rows ≤ l
@@ -20,12 +20,12 @@ within c w n rows l h k = omega (arith, mul-le-mul_right rows h)
 
 pub put_entries-requires : goal.put_entries-requires
 put_entries-requires g c =
-    let fits : g.row.W * c.args.rows ≤ length c.loop-k.out = omega (arith, c.requires.5, c.loop-k.invariant.2) in
+    let fits : g.row.W * c.args.rows ≤ length c.loop-k.out = omega (arith, c.requires.4, c.loop-k.invariant.2) in
     (search rules, omega arith, within 0 3 g.row.W _ _ (omega arith) fits)
 
 pub put_entries-requires-in-loop-k : goal.put_entries-requires-in-loop-k
 put_entries-requires-in-loop-k g c =
-    let fits : g.row.W * c.args.rows ≤ length c.put_entries.new.out = omega (arith, c.requires.5, c.loop-k.invariant.2, c.put_entries.ensures.size) in
+    let fits : g.row.W * c.args.rows ≤ length c.put_entries.new.out = omega (arith, c.requires.4, c.loop-k.invariant.2, c.put_entries.ensures.size) in
     (search rules, omega arith, within _ _ g.row.W _ _ (omega arith) fits)
 
 pub loop-k-preserved : goal.loop-k-preserved

@@ -14,7 +14,7 @@ group_cost-cost-requires c =
     let at = c.loop-q in
     let ms = c.args.list.now in
     let fits = group_size_fits (match_count ms) at.q (search rules) in
-    (omega (arith, fits, c.group_size.ensures), search rules)
+    omega (arith, fits, c.group_size.ensures)
 
 pub loop-q-preserved : goal.loop-q-preserved
 unfolding group_sum
