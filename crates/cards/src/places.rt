@@ -10,7 +10,7 @@ pub const GROUP: usize = 8;
 
 pub const GROUPED: usize = GROUP * MOMENTS;
 
-// Entry MOMENTS * r + f is the place of number f of record r.
+// Entry MOMENTS * r + f is the place of number f of record r. A static, since a constant is laid out anew wherever it is indexed.
 static PLACES: [u8; GROUPED] = [
     0, 8, 16, 24, 32, 40, 48, 56, 64, 72, 80, 88, 96, 1, 9, 17, 25, 33, 41, 49, 57, 65, 73, 81, 89,
     97, 2, 10, 18, 26, 34, 42, 50, 58, 66, 74, 82, 90, 98, 3, 11, 19, 27, 35, 43, 51, 59, 67, 75,

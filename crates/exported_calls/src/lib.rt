@@ -4,6 +4,7 @@
 #![tactic(auto)]
 
 ghost use Rattle.std.specs.Prelude.{[], ◌∷◌, length};
+ghost use Rattle.refusals.specs.Number.{number};
 ghost use Rattle.cards.specs.Calls.{Writes, Reads};
 ghost use Rattle.block_transforms.specs.Transform.{without};
 ghost use Rattle.transform_maps.specs.Multiply.{Multiplied};
@@ -21,14 +22,15 @@ use maghnelt::{
     maghnelt_frames_accumulate_transformed, maghnelt_frames_build, maghnelt_frames_build_strict,
     maghnelt_matches_accumulate, maghnelt_matches_accumulate_transformed, maghnelt_transform,
 };
+use refusals::Refusal;
 
 // What four calls return.
 #[derive(Clone, Copy)]
 pub struct Numbers {
-    pub first: u32,
-    pub second: u32,
-    pub third: u32,
-    pub fourth: u32,
+    pub first: Result<(), Refusal>,
+    pub second: Result<(), Refusal>,
+    pub third: Result<(), Refusal>,
+    pub fourth: Result<(), Refusal>,
 }
 
 // Each accumulating call once: a plane's frames, a match list through a transform, the frames under another decomposition and another map through transforms,
@@ -57,7 +59,7 @@ pub fn four_calls(
     third: &mut f64,
     fourth: &mut f64,
 ) -> Numbers
-    ensures { InARow hessian.old gradient.old (frames_made (without (work dof frames.now fixed.now sigma actions.now fitted.now map.now)) result.first first.new ∷ matches_made (record { work = record { dof = dof; matches = matches.now; action = action.now; map = place.now }; shapes = shape.now; transforms = transform.now }) result.second second.new ∷ frames_made (record { work = work dof frames.now fixed.now sigma actions.now refitted.now remapped.now; shapes = shapes.now; transforms = transforms.now }) result.third third.new ∷ matches_made (without (record { dof = dof; matches = matches.now; action = action.now; map = place.now })) result.fourth fourth.new ∷ []) (first.old ∷ second.old ∷ third.old ∷ fourth.old ∷ []) hessian.new gradient.new }
+    ensures { InARow hessian.old gradient.old (frames_made (without (work dof frames.now fixed.now sigma actions.now fitted.now map.now)) (number result.first) first.new ∷ matches_made (record { work = record { dof = dof; matches = matches.now; action = action.now; map = place.now }; shapes = shape.now; transforms = transform.now }) (number result.second) second.new ∷ frames_made (record { work = work dof frames.now fixed.now sigma actions.now refitted.now remapped.now; shapes = shapes.now; transforms = transforms.now }) (number result.third) third.new ∷ matches_made (without (record { dof = dof; matches = matches.now; action = action.now; map = place.now })) (number result.fourth) fourth.new ∷ []) (first.old ∷ second.old ∷ third.old ∷ fourth.old ∷ []) hessian.new gradient.new }
 {
     let one = maghnelt_frames_accumulate(
         dof, frames, fixed, sigma, actions, fitted, map, hessian, gradient, first,
@@ -81,8 +83,8 @@ pub fn four_calls(
 // What multiplying and accumulating return.
 #[derive(Clone, Copy)]
 pub struct Stages {
-    pub multiplied: u32,
-    pub added: u32,
+    pub multiplied: Result<(), Refusal>,
+    pub added: Result<(), Refusal>,
 }
 
 // A further transform multiplies that of a word, and a match list is accumulated through what this has left.
@@ -102,7 +104,7 @@ pub fn multiply_and_add(
     gradient: &mut [f64],
     cost: &mut f64,
 ) -> Stages
-    ensures { Multiplied (record { dof = dof; map = map.now; shapes = shapes.now; transforms = transforms.now; place = place; further-shape = shape.now; further = further.now }) result.multiplied to.old out.old to.new out.new × Accumulated (transformed_matches_call (length hessian.old) (length gradient.old) (record { work = record { dof = dof; matches = matches.now; action = action.now; map = map.now }; shapes = to.new; transforms = out.new })) hessian.old gradient.old cost.old result.added hessian.new gradient.new cost.new }
+    ensures { Multiplied (record { dof = dof; map = map.now; shapes = shapes.now; transforms = transforms.now; place = place; further-shape = shape.now; further = further.now }) (number result.multiplied) to.old out.old to.new out.new × Accumulated (transformed_matches_call (length hessian.old) (length gradient.old) (record { work = record { dof = dof; matches = matches.now; action = action.now; map = map.now }; shapes = to.new; transforms = out.new })) hessian.old gradient.old cost.old (number result.added) hessian.new gradient.new cost.new }
 {
     let multiplied = maghnelt_transform(
         dof, map, shapes, transforms, place, shape, further, to, out,
@@ -116,8 +118,8 @@ pub fn multiply_and_add(
 // What the two builds return.
 #[derive(Clone, Copy)]
 pub struct Answers {
-    pub plain: u32,
-    pub strict: u32,
+    pub plain: Result<(), Refusal>,
+    pub strict: Result<(), Refusal>,
 }
 
 // Both builds on the same inputs, each with outputs of its own.
@@ -135,7 +137,7 @@ pub fn both_builds(
     strict_points: &mut f64,
     strict_dropped: &mut u32,
 ) -> Answers
-    ensures { Agree (outputs plain_frames.old plain_fixed.old plain_points.old plain_dropped.old) (outputs strict_frames.old strict_fixed.old strict_points.old strict_dropped.old) result.plain result.strict (outputs plain_frames.new plain_fixed.new plain_points.new plain_dropped.new) (outputs strict_frames.new strict_fixed.new strict_points.new strict_dropped.new) }
+    ensures { Agree (outputs plain_frames.old plain_fixed.old plain_points.old plain_dropped.old) (outputs strict_frames.old strict_fixed.old strict_points.old strict_dropped.old) (number result.plain) (number result.strict) (outputs plain_frames.new plain_fixed.new plain_points.new plain_dropped.new) (outputs strict_frames.new strict_fixed.new strict_points.new strict_dropped.new) }
 {
     let plain = maghnelt_frames_build(
         dof,
@@ -163,13 +165,13 @@ pub fn both_builds(
 // What the calls on cards return.
 #[derive(Clone, Copy)]
 pub struct Turns {
-    pub written: u32,
-    pub read: u32,
+    pub written: Result<(), Refusal>,
+    pub read: Result<(), Refusal>,
 }
 
 // A list written to a card, and read again.
 pub fn written_and_read(moments: &[u64], card: &mut [u64], again: &mut [u64]) -> Turns
-    ensures { Writes moments.now card.old result.written card.new × Reads card.new again.old result.read again.new × Back moments.now card.old again.old result.written result.read again.new }
+    ensures { Writes moments.now card.old (number result.written) card.new × Reads card.new again.old (number result.read) again.new × Back moments.now card.old again.old (number result.written) (number result.read) again.new }
 {
     let written = maghnelt_card_write(moments, card);
     let read = maghnelt_card_read(card, again);
@@ -178,7 +180,7 @@ pub fn written_and_read(moments: &[u64], card: &mut [u64], again: &mut [u64]) ->
 
 // A card read to a list, and written again.
 pub fn read_and_written(card: &[u64], moments: &mut [u64], again: &mut [u64]) -> Turns
-    ensures { Reads card.now moments.old result.read moments.new × Writes moments.new again.old result.written again.new × Back card.now moments.old again.old result.read result.written again.new }
+    ensures { Reads card.now moments.old (number result.read) moments.new × Writes moments.new again.old (number result.written) again.new × Back card.now moments.old again.old (number result.read) (number result.written) again.new }
 {
     let read = maghnelt_card_read(card, moments);
     let written = maghnelt_card_write(moments, again);

@@ -14,7 +14,7 @@ use frame_cost::Pull;
 use plane::Plane;
 use point_moments::scatter::CENTRED;
 
-// What the frames are added by: their lists and the map, the plane, and the weight of its distances.
+// What a call is handed: the frames, their actions and the map, the plane, and the weight of its distances.
 #[derive(Clone, Copy)]
 struct Call<'a> {
     frames: &'a [f64],

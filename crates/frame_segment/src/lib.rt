@@ -26,7 +26,7 @@ pub struct Rows {
 }
 
 impl Rows {
-    // Those of a frame that the action x carries into the site, under a plane's normal.
+    // The rows of a frame that the action x carries into the site, under a plane's normal.
     #[inline(always)]
     pub fn of_frame(x: &[f64; ACTION], f: Centred, normal: [f64; 3], width: usize) -> Rows
         requires { width ≤ 9 }

@@ -1,4 +1,4 @@
-// A record of moments that is lent: one point more, another set more. Each answers 0, or the number of the reason to refuse it, and then nothing is stored.
+// A record of moments that is lent: one point more, another set more. Where that is refused nothing is stored.
 #![tactic(auto)]
 
 ghost use Rattle.refusals.specs.Refusal.{Answered};

@@ -1,10 +1,12 @@
-// The interface of include/maghnelt.h: each function is a call of the crate below it. The crate maghnelt_c exports them to hosts.
+// The calls of include/maghnelt.h, for programs in Rattle: each function is a call of the crate below it. The crate maghnelt_c exports them to hosts,
+// which it tells the number of an answer.
 #![tactic(auto)]
 
 ghost use Rattle.std.specs.Prelude.{◌≡◌, length};
 ghost use Rattle.square_root.specs.Computed.{square_root};
 ghost use Rattle.total_order.specs.Key.{key_of};
 ghost use Rattle.refusals.specs.Refusal.{Answered};
+ghost use Rattle.refusals.specs.Number.{number};
 ghost use Rattle.moment_lists.specs.Calls.{FromPoints, Pushes, Merges, Transforms, FindsMean, FindsPlane};
 ghost use Rattle.cards.specs.Calls.{Writes, Reads};
 ghost use Rattle.plane_lists.specs.Calls.{new_refusal, new_plane, SigmaAnswered};
@@ -24,6 +26,8 @@ ghost use Rattle.map_planes.specs.Accumulate.{matches_call, transformed_matches_
 ghost use Rattle.map_planes.specs.Linearize.{Linearized};
 ghost use Rattle.map_plane.specs.Linearize.{Linearized as OneLinearized};
 
+use refusals::Refusal;
+
 // IEEE 754's squareRoot.
 pub fn maghnelt_sqrt(x: f64) -> f64
     ensures { result ≡ square_root x }
@@ -39,38 +43,47 @@ pub fn maghnelt_total_order_key(bits: u64) -> i64
 }
 
 // The moments of a list of points.
-pub fn maghnelt_moments_from_points(points: &[f64], moments: &mut [f64]) -> u32
-    ensures { FromPoints points.now moments.old result moments.new }
+pub fn maghnelt_moments_from_points(points: &[f64], moments: &mut [f64]) -> Result<(), Refusal>
+    ensures { FromPoints points.now moments.old (number result) moments.new }
 {
-    refusals::told(moment_lists::from_points(points, moments))
+    moment_lists::from_points(points, moments)
 }
 
 // One point more.
-pub fn maghnelt_moments_push(moments: &mut [f64], point: &[f64]) -> u32
-    ensures { Pushes moments.old point.now result moments.new }
+pub fn maghnelt_moments_push(moments: &mut [f64], point: &[f64]) -> Result<(), Refusal>
+    ensures { Pushes moments.old point.now (number result) moments.new }
 {
-    refusals::told(moment_lists::push(moments, point))
+    moment_lists::push(moments, point)
 }
 
 // The points of another set too.
-pub fn maghnelt_moments_merge(moments: &mut [f64], other: &[f64]) -> u32
-    ensures { Merges moments.old other.now result moments.new }
+pub fn maghnelt_moments_merge(moments: &mut [f64], other: &[f64]) -> Result<(), Refusal>
+    ensures { Merges moments.old other.now (number result) moments.new }
 {
-    refusals::told(moment_lists::merge(moments, other))
+    moment_lists::merge(moments, other)
 }
 
 // The moments of the points carried by p -> A p + b.
-pub fn maghnelt_moments_transformed(moments: &[f64], a: &[f64], b: &[f64], out: &mut [f64]) -> u32
-    ensures { Transforms moments.now a.now b.now out.old result out.new }
+pub fn maghnelt_moments_transformed(
+    moments: &[f64],
+    a: &[f64],
+    b: &[f64],
+    out: &mut [f64],
+) -> Result<(), Refusal>
+    ensures { Transforms moments.now a.now b.now out.old (number result) out.new }
 {
-    refusals::told(moment_lists::transformed(moments, a, b, out))
+    moment_lists::transformed(moments, a, b, out)
 }
 
 // The mean and the scatter, or none.
-pub fn maghnelt_moments_mean_and_scatter(moments: &[f64], out: &mut [f64], found: &mut u32) -> u32
-    ensures { FindsMean moments.now out.old found.old result out.new found.new }
+pub fn maghnelt_moments_mean_and_scatter(
+    moments: &[f64],
+    out: &mut [f64],
+    found: &mut u32,
+) -> Result<(), Refusal>
+    ensures { FindsMean moments.now out.old found.old (number result) out.new found.new }
 {
-    refusals::told(moment_lists::mean_and_scatter(moments, out, found))
+    moment_lists::mean_and_scatter(moments, out, found)
 }
 
 // The plane of least scatter, or none.
@@ -79,31 +92,31 @@ pub fn maghnelt_moments_plane(
     decomposition: &[u64],
     out: &mut [f64],
     found: &mut u32,
-) -> u32
-    ensures { FindsPlane moments.now decomposition.now out.old found.old result out.new found.new }
+) -> Result<(), Refusal>
+    ensures { FindsPlane moments.now decomposition.now out.old found.old (number result) out.new found.new }
 {
-    refusals::told(moment_lists::plane(moments, decomposition, out, found))
+    moment_lists::plane(moments, decomposition, out, found)
 }
 
 // The card of a list of moments, in groups of eight records with their counts first; both as bit patterns.
-pub fn maghnelt_card_write(moments: &[u64], card: &mut [u64]) -> u32
-    ensures { Writes moments.now card.old result card.new }
+pub fn maghnelt_card_write(moments: &[u64], card: &mut [u64]) -> Result<(), Refusal>
+    ensures { Writes moments.now card.old (number result) card.new }
 {
-    refusals::told(cards::card_write(moments, card))
+    cards::card_write(moments, card)
 }
 
 // The list of moments of a card.
-pub fn maghnelt_card_read(card: &[u64], moments: &mut [u64]) -> u32
-    ensures { Reads card.now moments.old result moments.new }
+pub fn maghnelt_card_read(card: &[u64], moments: &mut [u64]) -> Result<(), Refusal>
+    ensures { Reads card.now moments.old (number result) moments.new }
 {
-    refusals::told(cards::card_read(card, moments))
+    cards::card_read(card, moments)
 }
 
 // The plane of a normal of any length.
-pub fn maghnelt_plane_new(normal: &[f64], offset: f64, plane: &mut [f64]) -> u32
-    ensures { Answered (new_refusal normal.now plane.old) result plane.old plane.new (new_plane normal.now offset) }
+pub fn maghnelt_plane_new(normal: &[f64], offset: f64, plane: &mut [f64]) -> Result<(), Refusal>
+    ensures { Answered (new_refusal normal.now plane.old) (number result) plane.old plane.new (new_plane normal.now offset) }
 {
-    refusals::told(plane_lists::plane_new(normal, offset, plane))
+    plane_lists::plane_new(normal, offset, plane)
 }
 
 // The standard deviation of a point's distance from a plane.
@@ -115,10 +128,10 @@ pub fn maghnelt_point_to_plane_sigma(
     world: &[f64],
     d_world_d_point: &[f64],
     sigma: &mut f64,
-) -> u32
-    ensures { SigmaAnswered (record { plane = plane.now; centroid = centroid.now; plane_covariance = plane_covariance.now; point_covariance = point_covariance.now; world = world.now; d_world_d_point = d_world_d_point.now }) result sigma.old sigma.new }
+) -> Result<(), Refusal>
+    ensures { SigmaAnswered (record { plane = plane.now; centroid = centroid.now; plane_covariance = plane_covariance.now; point_covariance = point_covariance.now; world = world.now; d_world_d_point = d_world_d_point.now }) (number result) sigma.old sigma.new }
 {
-    refusals::told(plane_lists::point_to_plane_sigma(
+    plane_lists::point_to_plane_sigma(
         plane,
         centroid,
         plane_covariance,
@@ -126,14 +139,14 @@ pub fn maghnelt_point_to_plane_sigma(
         world,
         d_world_d_point,
         sigma,
-    ))
+    )
 }
 
 // The map that an index list makes of a map.
-pub fn maghnelt_remap(map: &[u32], list: &[u32], out: &mut [u32]) -> u32
-    ensures { Answered (remap_refusal map.now list.now out.old) result out.old out.new (remapped map.now list.now) }
+pub fn maghnelt_remap(map: &[u32], list: &[u32], out: &mut [u32]) -> Result<(), Refusal>
+    ensures { Answered (remap_refusal map.now list.now out.old) (number result) out.old out.new (remapped map.now list.now) }
 {
-    refusals::told(normal_blocks::remap(map, list, out))
+    normal_blocks::remap(map, list, out)
 }
 
 // A further transform multiplies that of one word of a map, from the left.
@@ -147,10 +160,10 @@ pub fn maghnelt_transform(
     further: &[f64],
     out_shapes: &mut [u32],
     out_transforms: &mut [f64],
-) -> u32
-    ensures { Multiplied (record { dof = dof; map = map.now; shapes = shapes.now; transforms = transforms.now; place = place; further-shape = further_shape.now; further = further.now }) result out_shapes.old out_transforms.old out_shapes.new out_transforms.new }
+) -> Result<(), Refusal>
+    ensures { Multiplied (record { dof = dof; map = map.now; shapes = shapes.now; transforms = transforms.now; place = place; further-shape = further_shape.now; further = further.now }) (number result) out_shapes.old out_transforms.old out_shapes.new out_transforms.new }
 {
-    refusals::told(transform_maps::transform(
+    transform_maps::transform(
         dof,
         map,
         shapes,
@@ -160,7 +173,7 @@ pub fn maghnelt_transform(
         further,
         out_shapes,
         out_transforms,
-    ))
+    )
 }
 
 // The frames of a plane and its fixed set centred, the point total, and whether the fixed set was dropped.
@@ -173,10 +186,10 @@ pub fn maghnelt_frames_build(
     centred_fixed: &mut [f64],
     points: &mut f64,
     fixed_dropped: &mut u32,
-) -> u32
-    ensures { Builds dof frames.now fixed.now sigma centred_frames.old centred_fixed.old points.old fixed_dropped.old result centred_frames.new centred_fixed.new points.new fixed_dropped.new }
+) -> Result<(), Refusal>
+    ensures { Builds dof frames.now fixed.now sigma centred_frames.old centred_fixed.old points.old fixed_dropped.old (number result) centred_frames.new centred_fixed.new points.new fixed_dropped.new }
 {
-    refusals::told(plane_moments::build::build(
+    plane_moments::build::build(
         dof,
         frames,
         fixed,
@@ -185,7 +198,7 @@ pub fn maghnelt_frames_build(
         centred_fixed,
         points,
         fixed_dropped,
-    ))
+    )
 }
 
 // The same by the survey rule, which refuses a fixed count below 0.
@@ -198,10 +211,10 @@ pub fn maghnelt_frames_build_strict(
     centred_fixed: &mut [f64],
     points: &mut f64,
     fixed_dropped: &mut u32,
-) -> u32
-    ensures { BuildsStrictly dof frames.now fixed.now sigma centred_frames.old centred_fixed.old points.old fixed_dropped.old result centred_frames.new centred_fixed.new points.new fixed_dropped.new }
+) -> Result<(), Refusal>
+    ensures { BuildsStrictly dof frames.now fixed.now sigma centred_frames.old centred_fixed.old points.old fixed_dropped.old (number result) centred_frames.new centred_fixed.new points.new fixed_dropped.new }
 {
-    refusals::told(strict_build::build_strict(
+    strict_build::build_strict(
         dof,
         frames,
         fixed,
@@ -210,7 +223,7 @@ pub fn maghnelt_frames_build_strict(
         centred_fixed,
         points,
         fixed_dropped,
-    ))
+    )
 }
 
 // The mean and the scatter of what a plane is fitted to.
@@ -220,10 +233,10 @@ pub fn maghnelt_frames_fit(
     fixed: &[f64],
     actions: &[f64],
     out: &mut [f64],
-) -> u32
-    ensures { Answered (fit_refusal dof frames.now fixed.now actions.now out.old) result out.old out.new (fit_list frames.now fixed.now actions.now) }
+) -> Result<(), Refusal>
+    ensures { Answered (fit_refusal dof frames.now fixed.now actions.now out.old) (number result) out.old out.new (fit_list frames.now fixed.now actions.now) }
 {
-    refusals::told(plane_fit::fit(dof, frames, fixed, actions, out))
+    plane_fit::fit(dof, frames, fixed, actions, out)
 }
 
 // The cost of the frames and the fixed set under the fitted plane, and each mapped frame's block and vector added to the normal equations.
@@ -238,10 +251,10 @@ pub fn maghnelt_frames_accumulate(
     hessian: &mut [f64],
     gradient: &mut [f64],
     cost: &mut f64,
-) -> u32
-    ensures { Accumulated (frames_call (length hessian.old) (length gradient.old) (work dof frames.now fixed.now sigma actions.now decomposition.now map.now)) hessian.old gradient.old cost.old result hessian.new gradient.new cost.new }
+) -> Result<(), Refusal>
+    ensures { Accumulated (frames_call (length hessian.old) (length gradient.old) (work dof frames.now fixed.now sigma actions.now decomposition.now map.now)) hessian.old gradient.old cost.old (number result) hessian.new gradient.new cost.new }
 {
-    refusals::told(plane_moments::accumulate::accumulate(
+    plane_moments::accumulate::accumulate(
         dof,
         frames,
         fixed,
@@ -252,7 +265,7 @@ pub fn maghnelt_frames_accumulate(
         hessian,
         gradient,
         cost,
-    ))
+    )
 }
 
 // The same through transforms that lie beside the map.
@@ -269,10 +282,10 @@ pub fn maghnelt_frames_accumulate_transformed(
     hessian: &mut [f64],
     gradient: &mut [f64],
     cost: &mut f64,
-) -> u32
-    ensures { Accumulated (transformed_frames_call (length hessian.old) (length gradient.old) (record { work = work dof frames.now fixed.now sigma actions.now decomposition.now map.now; shapes = shapes.now; transforms = transforms.now })) hessian.old gradient.old cost.old result hessian.new gradient.new cost.new }
+) -> Result<(), Refusal>
+    ensures { Accumulated (transformed_frames_call (length hessian.old) (length gradient.old) (record { work = work dof frames.now fixed.now sigma actions.now decomposition.now map.now; shapes = shapes.now; transforms = transforms.now })) hessian.old gradient.old cost.old (number result) hessian.new gradient.new cost.new }
 {
-    refusals::told(transformed_frames::accumulate::accumulate(
+    transformed_frames::accumulate::accumulate(
         dof,
         frames,
         fixed,
@@ -285,7 +298,7 @@ pub fn maghnelt_frames_accumulate_transformed(
         hessian,
         gradient,
         cost,
-    ))
+    )
 }
 
 // Four residuals for each frame and the fixed set, and their Jacobian by columns.
@@ -298,10 +311,10 @@ pub fn maghnelt_frames_linearize(
     decompositions: &[u64],
     residual: &mut [f64],
     jacobian: &mut [f64],
-) -> u32
-    ensures { Linearizes dof frames.now fixed.now sigma actions.now decompositions.now residual.old jacobian.old result residual.new jacobian.new }
+) -> Result<(), Refusal>
+    ensures { Linearizes dof frames.now fixed.now sigma actions.now decompositions.now residual.old jacobian.old (number result) residual.new jacobian.new }
 {
-    refusals::told(plane_moments::linearize::linearize(
+    plane_moments::linearize::linearize(
         dof,
         frames,
         fixed,
@@ -310,14 +323,19 @@ pub fn maghnelt_frames_linearize(
         decompositions,
         residual,
         jacobian,
-    ))
+    )
 }
 
 // The centroid and the scatter of a bundle's points.
-pub fn maghnelt_bundle_fit(counts: &[u32], points: &[f64], fixed: &[f64], out: &mut [f64]) -> u32
-    ensures { Fits counts.now points.now fixed.now out.old result out.new }
+pub fn maghnelt_bundle_fit(
+    counts: &[u32],
+    points: &[f64],
+    fixed: &[f64],
+    out: &mut [f64],
+) -> Result<(), Refusal>
+    ensures { Fits counts.now points.now fixed.now out.old (number result) out.new }
 {
-    refusals::told(plane_bundle::fit(counts, points, fixed, out))
+    plane_bundle::fit(counts, points, fixed, out)
 }
 
 // A residual for each point of a bundle, the fixed ones last, and their Jacobian by columns.
@@ -331,10 +349,10 @@ pub fn maghnelt_bundle_linearize(
     decomposition: &[u64],
     residual: &mut [f64],
     jacobian: &mut [f64],
-) -> u32
-    ensures { BundleLinearizes (record { dof = dof; counts = counts.now; points = points.now; d_state = d_state.now; fixed = fixed.now; sigma = sigma; decomposition = decomposition.now }) residual.old jacobian.old result residual.new jacobian.new }
+) -> Result<(), Refusal>
+    ensures { BundleLinearizes (record { dof = dof; counts = counts.now; points = points.now; d_state = d_state.now; fixed = fixed.now; sigma = sigma; decomposition = decomposition.now }) residual.old jacobian.old (number result) residual.new jacobian.new }
 {
-    refusals::told(plane_bundle::linearize(
+    plane_bundle::linearize(
         dof,
         counts,
         points,
@@ -344,7 +362,7 @@ pub fn maghnelt_bundle_linearize(
         decomposition,
         residual,
         jacobian,
-    ))
+    )
 }
 
 // The cost of a match list, and its block and vector added to the normal equations.
@@ -356,12 +374,10 @@ pub fn maghnelt_matches_accumulate(
     hessian: &mut [f64],
     gradient: &mut [f64],
     cost: &mut f64,
-) -> u32
-    ensures { Accumulated (matches_call (length hessian.old) (length gradient.old) (record { dof = dof; matches = matches.now; action = action.now; map = map.now })) hessian.old gradient.old cost.old result hessian.new gradient.new cost.new }
+) -> Result<(), Refusal>
+    ensures { Accumulated (matches_call (length hessian.old) (length gradient.old) (record { dof = dof; matches = matches.now; action = action.now; map = map.now })) hessian.old gradient.old cost.old (number result) hessian.new gradient.new cost.new }
 {
-    refusals::told(transformed_matches::accumulate_plain(
-        dof, matches, action, map, hessian, gradient, cost,
-    ))
+    transformed_matches::accumulate_plain(dof, matches, action, map, hessian, gradient, cost)
 }
 
 // The same through the transform of word 0.
@@ -375,12 +391,12 @@ pub fn maghnelt_matches_accumulate_transformed(
     hessian: &mut [f64],
     gradient: &mut [f64],
     cost: &mut f64,
-) -> u32
-    ensures { Accumulated (transformed_matches_call (length hessian.old) (length gradient.old) (record { work = record { dof = dof; matches = matches.now; action = action.now; map = map.now }; shapes = shapes.now; transforms = transforms.now })) hessian.old gradient.old cost.old result hessian.new gradient.new cost.new }
+) -> Result<(), Refusal>
+    ensures { Accumulated (transformed_matches_call (length hessian.old) (length gradient.old) (record { work = record { dof = dof; matches = matches.now; action = action.now; map = map.now }; shapes = shapes.now; transforms = transforms.now })) hessian.old gradient.old cost.old (number result) hessian.new gradient.new cost.new }
 {
-    refusals::told(transformed_matches::accumulate(
+    transformed_matches::accumulate(
         dof, matches, action, map, shapes, transforms, hessian, gradient, cost,
-    ))
+    )
 }
 
 // The residual of each match, and their Jacobian by columns.
@@ -390,10 +406,10 @@ pub fn maghnelt_matches_linearize(
     action: &[f64],
     residual: &mut [f64],
     jacobian: &mut [f64],
-) -> u32
-    ensures { Linearized dof matches.now action.now result residual.old jacobian.old residual.new jacobian.new }
+) -> Result<(), Refusal>
+    ensures { Linearized dof matches.now action.now (number result) residual.old jacobian.old residual.new jacobian.new }
 {
-    refusals::told(map_planes::linearize(dof, matches, action, residual, jacobian))
+    map_planes::linearize(dof, matches, action, residual, jacobian)
 }
 
 // The residual of one match below its chain, and its row.
@@ -405,8 +421,8 @@ pub fn maghnelt_match_linearize(
     d_extrinsic: &[f64],
     residual: &mut f64,
     row: &mut [f64],
-) -> u32
-    ensures { OneLinearized (record { dof = dof; matched = matched.now; world = world.now; d_state = d_state.now; d_extrinsic = d_extrinsic.now }) result residual.old row.old residual.new row.new }
+) -> Result<(), Refusal>
+    ensures { OneLinearized (record { dof = dof; matched = matched.now; world = world.now; d_state = d_state.now; d_extrinsic = d_extrinsic.now }) (number result) residual.old row.old residual.new row.new }
 {
-    refusals::told(map_plane::linearize(dof, matched, world, d_state, d_extrinsic, residual, row))
+    map_plane::linearize(dof, matched, world, d_state, d_extrinsic, residual, row)
 }

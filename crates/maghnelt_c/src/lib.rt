@@ -1,4 +1,5 @@
-// The functions that hosts link, by the names of include/maghnelt.h: each is the call of the crate maghnelt of that name, under the same contract.
+// The functions that hosts link, by the names of include/maghnelt.h: each is the call of the crate maghnelt of that name, under the same contract, with the
+// number of its answer.
 #![tactic(auto)]
 
 ghost use Rattle.std.specs.Prelude.{◌≡◌, length};
@@ -45,7 +46,7 @@ pub extern "C" fn maghnelt_total_order_key(bits: u64) -> i64
 pub extern "C" fn maghnelt_moments_from_points(points: &[f64], moments: &mut [f64]) -> u32
     ensures { FromPoints points.now moments.old result moments.new }
 {
-    maghnelt::maghnelt_moments_from_points(points, moments)
+    refusals::told(maghnelt::maghnelt_moments_from_points(points, moments))
 }
 
 // One point more.
@@ -53,7 +54,7 @@ pub extern "C" fn maghnelt_moments_from_points(points: &[f64], moments: &mut [f6
 pub extern "C" fn maghnelt_moments_push(moments: &mut [f64], point: &[f64]) -> u32
     ensures { Pushes moments.old point.now result moments.new }
 {
-    maghnelt::maghnelt_moments_push(moments, point)
+    refusals::told(maghnelt::maghnelt_moments_push(moments, point))
 }
 
 // The points of another set too.
@@ -61,7 +62,7 @@ pub extern "C" fn maghnelt_moments_push(moments: &mut [f64], point: &[f64]) -> u
 pub extern "C" fn maghnelt_moments_merge(moments: &mut [f64], other: &[f64]) -> u32
     ensures { Merges moments.old other.now result moments.new }
 {
-    maghnelt::maghnelt_moments_merge(moments, other)
+    refusals::told(maghnelt::maghnelt_moments_merge(moments, other))
 }
 
 // The moments of the points carried by p -> A p + b.
@@ -74,7 +75,7 @@ pub extern "C" fn maghnelt_moments_transformed(
 ) -> u32
     ensures { Transforms moments.now a.now b.now out.old result out.new }
 {
-    maghnelt::maghnelt_moments_transformed(moments, a, b, out)
+    refusals::told(maghnelt::maghnelt_moments_transformed(moments, a, b, out))
 }
 
 // The mean and the scatter, or none.
@@ -86,7 +87,7 @@ pub extern "C" fn maghnelt_moments_mean_and_scatter(
 ) -> u32
     ensures { FindsMean moments.now out.old found.old result out.new found.new }
 {
-    maghnelt::maghnelt_moments_mean_and_scatter(moments, out, found)
+    refusals::told(maghnelt::maghnelt_moments_mean_and_scatter(moments, out, found))
 }
 
 // The plane of least scatter, or none.
@@ -99,7 +100,7 @@ pub extern "C" fn maghnelt_moments_plane(
 ) -> u32
     ensures { FindsPlane moments.now decomposition.now out.old found.old result out.new found.new }
 {
-    maghnelt::maghnelt_moments_plane(moments, decomposition, out, found)
+    refusals::told(maghnelt::maghnelt_moments_plane(moments, decomposition, out, found))
 }
 
 // The card of a list of moments, in groups of eight records with their counts first; both as bit patterns.
@@ -107,7 +108,7 @@ pub extern "C" fn maghnelt_moments_plane(
 pub extern "C" fn maghnelt_card_write(moments: &[u64], card: &mut [u64]) -> u32
     ensures { Writes moments.now card.old result card.new }
 {
-    maghnelt::maghnelt_card_write(moments, card)
+    refusals::told(maghnelt::maghnelt_card_write(moments, card))
 }
 
 // The list of moments of a card.
@@ -115,7 +116,7 @@ pub extern "C" fn maghnelt_card_write(moments: &[u64], card: &mut [u64]) -> u32
 pub extern "C" fn maghnelt_card_read(card: &[u64], moments: &mut [u64]) -> u32
     ensures { Reads card.now moments.old result moments.new }
 {
-    maghnelt::maghnelt_card_read(card, moments)
+    refusals::told(maghnelt::maghnelt_card_read(card, moments))
 }
 
 // The plane of a normal of any length.
@@ -123,7 +124,7 @@ pub extern "C" fn maghnelt_card_read(card: &[u64], moments: &mut [u64]) -> u32
 pub extern "C" fn maghnelt_plane_new(normal: &[f64], offset: f64, plane: &mut [f64]) -> u32
     ensures { Answered (new_refusal normal.now plane.old) result plane.old plane.new (new_plane normal.now offset) }
 {
-    maghnelt::maghnelt_plane_new(normal, offset, plane)
+    refusals::told(maghnelt::maghnelt_plane_new(normal, offset, plane))
 }
 
 // The standard deviation of a point's distance from a plane.
@@ -139,7 +140,7 @@ pub extern "C" fn maghnelt_point_to_plane_sigma(
 ) -> u32
     ensures { SigmaAnswered (record { plane = plane.now; centroid = centroid.now; plane_covariance = plane_covariance.now; point_covariance = point_covariance.now; world = world.now; d_world_d_point = d_world_d_point.now }) result sigma.old sigma.new }
 {
-    maghnelt::maghnelt_point_to_plane_sigma(
+    refusals::told(maghnelt::maghnelt_point_to_plane_sigma(
         plane,
         centroid,
         plane_covariance,
@@ -147,7 +148,7 @@ pub extern "C" fn maghnelt_point_to_plane_sigma(
         world,
         d_world_d_point,
         sigma,
-    )
+    ))
 }
 
 // The map that an index list makes of a map.
@@ -155,7 +156,7 @@ pub extern "C" fn maghnelt_point_to_plane_sigma(
 pub extern "C" fn maghnelt_remap(map: &[u32], list: &[u32], out: &mut [u32]) -> u32
     ensures { Answered (remap_refusal map.now list.now out.old) result out.old out.new (remapped map.now list.now) }
 {
-    maghnelt::maghnelt_remap(map, list, out)
+    refusals::told(maghnelt::maghnelt_remap(map, list, out))
 }
 
 // A further transform multiplies that of one word of a map, from the left.
@@ -173,7 +174,7 @@ pub extern "C" fn maghnelt_transform(
 ) -> u32
     ensures { Multiplied (record { dof = dof; map = map.now; shapes = shapes.now; transforms = transforms.now; place = place; further-shape = further_shape.now; further = further.now }) result out_shapes.old out_transforms.old out_shapes.new out_transforms.new }
 {
-    maghnelt::maghnelt_transform(
+    refusals::told(maghnelt::maghnelt_transform(
         dof,
         map,
         shapes,
@@ -183,7 +184,7 @@ pub extern "C" fn maghnelt_transform(
         further,
         out_shapes,
         out_transforms,
-    )
+    ))
 }
 
 // The frames of a plane and its fixed set centred, the point total, and whether the fixed set was dropped.
@@ -200,7 +201,7 @@ pub extern "C" fn maghnelt_frames_build(
 ) -> u32
     ensures { Builds dof frames.now fixed.now sigma centred_frames.old centred_fixed.old points.old fixed_dropped.old result centred_frames.new centred_fixed.new points.new fixed_dropped.new }
 {
-    maghnelt::maghnelt_frames_build(
+    refusals::told(maghnelt::maghnelt_frames_build(
         dof,
         frames,
         fixed,
@@ -209,7 +210,7 @@ pub extern "C" fn maghnelt_frames_build(
         centred_fixed,
         points,
         fixed_dropped,
-    )
+    ))
 }
 
 // The same by the survey rule, which refuses a fixed count below 0.
@@ -226,7 +227,7 @@ pub extern "C" fn maghnelt_frames_build_strict(
 ) -> u32
     ensures { BuildsStrictly dof frames.now fixed.now sigma centred_frames.old centred_fixed.old points.old fixed_dropped.old result centred_frames.new centred_fixed.new points.new fixed_dropped.new }
 {
-    maghnelt::maghnelt_frames_build_strict(
+    refusals::told(maghnelt::maghnelt_frames_build_strict(
         dof,
         frames,
         fixed,
@@ -235,7 +236,7 @@ pub extern "C" fn maghnelt_frames_build_strict(
         centred_fixed,
         points,
         fixed_dropped,
-    )
+    ))
 }
 
 // The mean and the scatter of what a plane is fitted to.
@@ -249,7 +250,7 @@ pub extern "C" fn maghnelt_frames_fit(
 ) -> u32
     ensures { Answered (fit_refusal dof frames.now fixed.now actions.now out.old) result out.old out.new (fit_list frames.now fixed.now actions.now) }
 {
-    maghnelt::maghnelt_frames_fit(dof, frames, fixed, actions, out)
+    refusals::told(maghnelt::maghnelt_frames_fit(dof, frames, fixed, actions, out))
 }
 
 // The cost of the frames and the fixed set under the fitted plane, and each mapped frame's block and vector added to the normal equations.
@@ -268,7 +269,7 @@ pub extern "C" fn maghnelt_frames_accumulate(
 ) -> u32
     ensures { Accumulated (frames_call (length hessian.old) (length gradient.old) (work dof frames.now fixed.now sigma actions.now decomposition.now map.now)) hessian.old gradient.old cost.old result hessian.new gradient.new cost.new }
 {
-    maghnelt::maghnelt_frames_accumulate(
+    refusals::told(maghnelt::maghnelt_frames_accumulate(
         dof,
         frames,
         fixed,
@@ -279,7 +280,7 @@ pub extern "C" fn maghnelt_frames_accumulate(
         hessian,
         gradient,
         cost,
-    )
+    ))
 }
 
 // The same through transforms that lie beside the map.
@@ -300,7 +301,7 @@ pub extern "C" fn maghnelt_frames_accumulate_transformed(
 ) -> u32
     ensures { Accumulated (transformed_frames_call (length hessian.old) (length gradient.old) (record { work = work dof frames.now fixed.now sigma actions.now decomposition.now map.now; shapes = shapes.now; transforms = transforms.now })) hessian.old gradient.old cost.old result hessian.new gradient.new cost.new }
 {
-    maghnelt::maghnelt_frames_accumulate_transformed(
+    refusals::told(maghnelt::maghnelt_frames_accumulate_transformed(
         dof,
         frames,
         fixed,
@@ -313,7 +314,7 @@ pub extern "C" fn maghnelt_frames_accumulate_transformed(
         hessian,
         gradient,
         cost,
-    )
+    ))
 }
 
 // Four residuals for each frame and the fixed set, and their Jacobian by columns.
@@ -330,7 +331,7 @@ pub extern "C" fn maghnelt_frames_linearize(
 ) -> u32
     ensures { Linearizes dof frames.now fixed.now sigma actions.now decompositions.now residual.old jacobian.old result residual.new jacobian.new }
 {
-    maghnelt::maghnelt_frames_linearize(
+    refusals::told(maghnelt::maghnelt_frames_linearize(
         dof,
         frames,
         fixed,
@@ -339,7 +340,7 @@ pub extern "C" fn maghnelt_frames_linearize(
         decompositions,
         residual,
         jacobian,
-    )
+    ))
 }
 
 // The centroid and the scatter of a bundle's points.
@@ -352,7 +353,7 @@ pub extern "C" fn maghnelt_bundle_fit(
 ) -> u32
     ensures { Fits counts.now points.now fixed.now out.old result out.new }
 {
-    maghnelt::maghnelt_bundle_fit(counts, points, fixed, out)
+    refusals::told(maghnelt::maghnelt_bundle_fit(counts, points, fixed, out))
 }
 
 // A residual for each point of a bundle, the fixed ones last, and their Jacobian by columns.
@@ -370,7 +371,7 @@ pub extern "C" fn maghnelt_bundle_linearize(
 ) -> u32
     ensures { BundleLinearizes (record { dof = dof; counts = counts.now; points = points.now; d_state = d_state.now; fixed = fixed.now; sigma = sigma; decomposition = decomposition.now }) residual.old jacobian.old result residual.new jacobian.new }
 {
-    maghnelt::maghnelt_bundle_linearize(
+    refusals::told(maghnelt::maghnelt_bundle_linearize(
         dof,
         counts,
         points,
@@ -380,7 +381,7 @@ pub extern "C" fn maghnelt_bundle_linearize(
         decomposition,
         residual,
         jacobian,
-    )
+    ))
 }
 
 // The cost of a match list, and its block and vector added to the normal equations.
@@ -396,7 +397,9 @@ pub extern "C" fn maghnelt_matches_accumulate(
 ) -> u32
     ensures { Accumulated (matches_call (length hessian.old) (length gradient.old) (record { dof = dof; matches = matches.now; action = action.now; map = map.now })) hessian.old gradient.old cost.old result hessian.new gradient.new cost.new }
 {
-    maghnelt::maghnelt_matches_accumulate(dof, matches, action, map, hessian, gradient, cost)
+    refusals::told(maghnelt::maghnelt_matches_accumulate(
+        dof, matches, action, map, hessian, gradient, cost,
+    ))
 }
 
 // The same through the transform of word 0.
@@ -414,9 +417,9 @@ pub extern "C" fn maghnelt_matches_accumulate_transformed(
 ) -> u32
     ensures { Accumulated (transformed_matches_call (length hessian.old) (length gradient.old) (record { work = record { dof = dof; matches = matches.now; action = action.now; map = map.now }; shapes = shapes.now; transforms = transforms.now })) hessian.old gradient.old cost.old result hessian.new gradient.new cost.new }
 {
-    maghnelt::maghnelt_matches_accumulate_transformed(
+    refusals::told(maghnelt::maghnelt_matches_accumulate_transformed(
         dof, matches, action, map, shapes, transforms, hessian, gradient, cost,
-    )
+    ))
 }
 
 // The residual of each match, and their Jacobian by columns.
@@ -430,7 +433,7 @@ pub extern "C" fn maghnelt_matches_linearize(
 ) -> u32
     ensures { Linearized dof matches.now action.now result residual.old jacobian.old residual.new jacobian.new }
 {
-    maghnelt::maghnelt_matches_linearize(dof, matches, action, residual, jacobian)
+    refusals::told(maghnelt::maghnelt_matches_linearize(dof, matches, action, residual, jacobian))
 }
 
 // The residual of one match below its chain, and its row.
@@ -446,5 +449,13 @@ pub extern "C" fn maghnelt_match_linearize(
 ) -> u32
     ensures { OneLinearized (record { dof = dof; matched = matched.now; world = world.now; d_state = d_state.now; d_extrinsic = d_extrinsic.now }) result residual.old row.old residual.new row.new }
 {
-    maghnelt::maghnelt_match_linearize(dof, matched, world, d_state, d_extrinsic, residual, row)
+    refusals::told(maghnelt::maghnelt_match_linearize(
+        dof,
+        matched,
+        world,
+        d_state,
+        d_extrinsic,
+        residual,
+        row,
+    ))
 }

@@ -142,6 +142,7 @@ pub fn jacobian(list: &[f64], x: &[f64; ACTION], dof: usize, residual: &mut [f64
     let rows = list.len() / MATCH;
     let t = match_rows::by_rows(x);
     let mut c = begin(list, rows, x, &t, dof, residual, out);
+    // Not a counted loop: each turn says which column is next.
     while c < dof {
         c = write_next(list, rows, &t, c, dof, out);
     }

@@ -38,7 +38,7 @@ impl Plane {
     }
 }
 
-// Of its numbers as a list: normal, then offset.
+// From a list of its numbers: normal, then offset.
 impl From<[f64; PLANE]> for Plane {
     ghost from_gives = { λ l p. p ≡ plane_of l };
 

@@ -1,4 +1,4 @@
-// The calls of a host on planes as lists: one that is refused, for the reason that it answers, writes nothing.
+// The calls of a host on planes as lists: one that is refused writes nothing.
 #![tactic(auto)]
 
 ghost use Rattle.refusals.specs.Number.{number};

@@ -32,7 +32,7 @@ pub fn bad_lengths(
     normal_blocks::bad_target(words, cells, n)
 }
 
-// Why the call is refused.
+// Whether the call is refused, and why.
 fn refusal(
     dof: u32,
     frames: &[f64],
@@ -99,7 +99,7 @@ fn add_fitted(
     }
 }
 
-// The host's call.
+// The host's call. Nothing is written where it is refused.
 pub fn accumulate(
     dof: u32,
     frames: &[f64],

@@ -61,7 +61,7 @@ fn bad_lengths(
     bad_outputs(count, dof, residuals, cells)
 }
 
-// Why the call is refused.
+// Whether the call is refused, and why.
 fn refusal(
     dof: u32,
     frames: &[f64],
@@ -136,7 +136,7 @@ fn write_fitted(
     }
 }
 
-// The host's call.
+// The host's call. Nothing is written where it is refused.
 pub fn linearize(
     dof: u32,
     frames: &[f64],

@@ -2,6 +2,7 @@
 // number answered in 8, how many lists of numbers there are in 4, of patterns in 4, of words in 4. The lists stand in this order;
 // afterwards those of patterns are left out, which no call writes.
 use crate::sample::{List, Sample};
+use refusals::Refusal;
 
 // A case by its place in the sample.
 #[derive(Clone, Copy)]
@@ -26,8 +27,8 @@ impl Head<'_> {
     }
 
     // Whether its answer is this.
-    pub fn answers(self, answer: u32) -> bool {
-        self.head() >> 8 & 0xff == answer
+    pub fn answers(self, answer: Result<(), Refusal>) -> bool {
+        self.head() >> 8 & 0xff == refusals::told(answer)
     }
 
     // How many lists of each kind it hands in.
@@ -133,7 +134,7 @@ pub struct Case<'a> {
 
 impl<'a> Case<'a> {
     // Whether its answer is this.
-    pub fn answers(self, answer: u32) -> bool {
+    pub fn answers(self, answer: Result<(), Refusal>) -> bool {
         self.head.answers(answer)
     }
 
@@ -194,7 +195,7 @@ impl<'a> Case<'a> {
     }
 
     // Whether the answer is right, and the lists of numbers up to list k, which was written, are.
-    pub fn wrote(self, answer: u32, k: usize, list: &[f64]) -> bool {
+    pub fn wrote(self, answer: Result<(), Refusal>, k: usize, list: &[f64]) -> bool {
         self.answers(answer) && self.kept(k) && self.left(k, list)
     }
 }

@@ -9,7 +9,9 @@ mod sample;
 use call::Call;
 use case::{Case, Head};
 use sample::Sample;
-use std::{fs, io};
+use std::fs::File;
+use std::io;
+use std::io::Read;
 
 // Whether the words that a call does not write are left as they were: its first where that is the freedom, and the second list.
 fn kept_words(call: Call, c: Case) -> bool {
@@ -53,12 +55,22 @@ fn report(rt: &impl Print, sample: Sample) -> io::Result<()> {
     println!(rt; "{agree} of {cases} calls agree")
 }
 
+// Fills the sample from a file, as far as that goes. Its room is fixed: a longer file is cut off, and no call can fail to get memory.
+fn fill(file: &mut File, sample: &mut [u8; 700000]) -> io::Result<()> {
+    let mut filled = 0;
+    for _ in 0..700000 {
+        let n = file.read(&mut sample[filled..])?;
+        if n == 0 {
+            break;
+        }
+        filled += n;
+    }
+    Ok(())
+}
+
 fn main(rt: HostRuntime) -> io::Result<()> {
-    let bytes = fs::read(&rt, "sample")?;
-    report(
-        &rt,
-        Sample {
-            bytes: bytes.as_slice(),
-        },
-    )
+    let mut file = File::open(&rt, "sample")?;
+    let mut bytes = [0; 700000];
+    fill(&mut file, &mut bytes)?;
+    report(&rt, Sample { bytes: &bytes })
 }

@@ -39,6 +39,7 @@ fn at_most(n: u64, s: u64) -> u64
     ensures { result * result ≤ n }
 {
     let mut r = s;
+    // Not a counted loop: it ends where the square fits, after one turn at most where the guess is good.
     while n < r * r {
         r -= 1;
     }
@@ -51,6 +52,7 @@ fn settle(n: u64, s: u64) -> u64
     ensures { Root n result }
 {
     let mut r = at_most(n, s);
+    // The same upwards.
     while (r + 1) * (r + 1) <= n {
         r += 1;
     }

@@ -8,7 +8,7 @@ use derivative::MOST_DOF;
 use point_moments::scatter::CENTRED;
 use refusals::Refusal;
 
-// Why the call is refused.
+// Whether the call is refused, and why.
 fn refusal(
     dof: u32,
     frames: &[f64],
@@ -84,7 +84,7 @@ fn add_fitted(
     }
 }
 
-// The host's call.
+// The host's call. Nothing is written where it is refused.
 pub fn accumulate(
     dof: u32,
     frames: &[f64],

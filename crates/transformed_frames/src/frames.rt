@@ -336,6 +336,7 @@ fn add_frames(
 {
     let mut sum = 0.0;
     let mut k = 0;
+    // Not a counted loop: each turn goes on where its run ends.
     while k < count {
         let end = run_end(shapes, k, count);
         sum = add_run(
