@@ -133,7 +133,7 @@ def point_6():
 
 
 def point_7():
-    yield 'arms that choose a step by a number', list(lines(r'^\s*[0-9]+ => \w+\('))
+    yield 'arms that choose a step by a number', list(lines(r'^\s*[0-9]+ => \w+(::<[0-9]+>)?\('))
 
 
 def point_8():
