@@ -1,6 +1,11 @@
 -- What the functions below the two calls are handed and leave; no exported contract cites it. Definitions only.
 use Rattle.std.specs.Prelude.{ℕ, ◌+◌, ◌*◌, ◌<◌, ◌≤◌, ◌≡◌, List, length, get_or}
-use Rattle.cards.specs.Card.{GROUPED, place_of}
+use Rattle.point_moments.specs.Moments.{MOMENTS}
+use Rattle.cards.specs.Card.{GROUP, GROUPED, card_place, place_of}
+
+-- a table of a group's places, the numbers in the list's order: record after record
+abbrev pub Places : List ℕ → Type 0
+Places t = (f r : ℕ) → f < MOMENTS → r < GROUP → get_or t (MOMENTS * r + f) 0 ≡ card_place f r
 
 -- number i of a list is at its place on a card; the first k numbers are; those from a number on are
 abbrev pub AtPlace : List ℕ → List ℕ → ℕ → Type 0

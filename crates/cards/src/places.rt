@@ -2,6 +2,7 @@
 ghost use Rattle.std.specs.Prelude.{◌≡◌, ◌<◌};
 ghost use Rattle.point_moments.specs.Moments.{MOMENTS};
 ghost use Rattle.cards.specs.Card.{GROUP, card_place};
+ghost use Rattle.cards.specs.Steps.{Places};
 
 use point_moments::MOMENTS;
 
@@ -19,11 +20,19 @@ static PLACES: [u8; GROUPED] = [
     55, 63, 71, 79, 87, 95, 103,
 ];
 
+// The table, with the rule that it follows.
+#[inline(always)]
+pub fn table() -> &'static [u8; GROUPED]
+    ensures { Places result.now }
+{
+    &PLACES
+}
+
 // Where number f of record r of a group goes.
 #[inline(always)]
 pub fn place(f: usize, r: usize) -> usize
     requires { (f < MOMENTS) × (r < GROUP) }
     ensures { result ≡ card_place f r }
 {
-    usize::from(PLACES[MOMENTS * r + f])
+    usize::from(table()[MOMENTS * r + f])
 }

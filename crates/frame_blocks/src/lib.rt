@@ -24,18 +24,18 @@ struct Call<'a> {
     weight: f64,
 }
 
-// One frame: its block and vector are added if it has a place.
-fn add_frame(
+// One frame of W columns: its block and vector are added if it has a place.
+#[inline(always)]
+fn add_frame<const W: usize>(
     h: &mut [f64],
     g: &mut [f64],
     call: &Call,
     p: Option<usize>,
-    dof: usize,
     k: usize,
     pull: Pull,
 )
-    requires { (dof ≤ 9) × (exceeds (length g.old) dof p ≡ false) × (length h.old ≡ length g.old * length g.old) × Held call.now.frames.now call.now.actions.now k }
-    ensures { FrameAdded (action_at call.now.actions.now k) (frame_at call.now.frames.now k) call.now.plane.normal pull call.now.weight (length g.old) dof p h.old h.new g.old g.new }
+    requires { (W ≤ 9) × (exceeds (length g.old) W p ≡ false) × (length h.old ≡ length g.old * length g.old) × Held call.now.frames.now call.now.actions.now k }
+    ensures { FrameAdded (action_at call.now.actions.now k) (frame_at call.now.frames.now k) call.now.plane.normal pull call.now.weight (length g.old) W p h.old h.new g.old g.new }
 {
     let n = g.len();
     let turn = pull.turn;
@@ -45,7 +45,7 @@ fn add_frame(
             g,
             n,
             at,
-            dof,
+            W,
             call.frames,
             call.actions,
             k,
@@ -103,28 +103,27 @@ fn fill_pulls(call: &Call, from: usize, size: usize, pulls: &mut [f64; 20])
 }
 
 // The frames of a batch, one after the other: the sum with their costs is the answer.
-fn add_batch(
+#[inline(always)]
+fn add_batch<const W: usize>(
     h: &mut [f64],
     g: &mut [f64],
     call: &Call,
-    dof: usize,
     from: usize,
     size: usize,
     pulls: &[f64; 20],
     sum: f64,
 ) -> f64
-    requires { (size ≤ BATCH) × RunReady (length h.old) (length g.old) dof call.now.frames.now call.now.actions.now call.now.map.now (from + size) }
-    ensures { BatchAdded (length g.old) dof call.now.frames.now call.now.actions.now call.now.map.now call.now.plane.normal call.now.weight pulls.now from size sum result h.old h.new g.old g.new }
+    requires { (size ≤ BATCH) × RunReady (length h.old) (length g.old) W call.now.frames.now call.now.actions.now call.now.map.now (from + size) }
+    ensures { BatchAdded (length g.old) W call.now.frames.now call.now.actions.now call.now.map.now call.now.plane.normal call.now.weight pulls.now from size sum result h.old h.new g.old g.new }
 {
     let mut s = sum;
     for k in 0..size {
         let p = pull_at(pulls, k);
-        add_frame(
+        add_frame::<W>(
             h,
             g,
             call,
             normal_blocks::lookup(call.map, from + k),
-            dof,
             from + k,
             p,
         );
@@ -133,8 +132,29 @@ fn add_batch(
     s
 }
 
-// Batch after batch.
-fn add_frames(
+// Batch after batch. The width is chosen once for all frames, so that each width has a loop of its own.
+fn add_frames<const W: usize>(
+    h: &mut [f64],
+    g: &mut [f64],
+    call: &Call,
+    count: usize,
+    start: f64,
+) -> f64
+    requires { RunReady (length h.old) (length g.old) W call.now.frames.now call.now.actions.now call.now.map.now count }
+    ensures { RunAdded (length g.old) W call.now.frames.now call.now.actions.now call.now.map.now call.now.plane.normal call.now.plane.offset call.now.weight count start result h.old h.new g.old g.new }
+{
+    let mut sum = start;
+    let mut p = [0.0; 20];
+    for from in (0..count).step_by(BATCH) {
+        let size = lists::batch_size(count, from, BATCH);
+        fill_pulls(call, from, size, &mut p);
+        sum = add_batch::<W>(h, g, call, from, size, &p, sum);
+    }
+    sum
+}
+
+// The same by the width: a copy of the code for each.
+fn add_frames_by(
     h: &mut [f64],
     g: &mut [f64],
     call: &Call,
@@ -145,14 +165,19 @@ fn add_frames(
     requires { RunReady (length h.old) (length g.old) dof call.now.frames.now call.now.actions.now call.now.map.now count }
     ensures { RunAdded (length g.old) dof call.now.frames.now call.now.actions.now call.now.map.now call.now.plane.normal call.now.plane.offset call.now.weight count start result h.old h.new g.old g.new }
 {
-    let mut sum = start;
-    let mut p = [0.0; 20];
-    for from in (0..count).step_by(BATCH) {
-        let size = lists::batch_size(count, from, BATCH);
-        fill_pulls(call, from, size, &mut p);
-        sum = add_batch(h, g, call, dof, from, size, &p, sum);
+    match dof {
+        0 => add_frames::<0>(h, g, call, count, start),
+        1 => add_frames::<1>(h, g, call, count, start),
+        2 => add_frames::<2>(h, g, call, count, start),
+        3 => add_frames::<3>(h, g, call, count, start),
+        4 => add_frames::<4>(h, g, call, count, start),
+        5 => add_frames::<5>(h, g, call, count, start),
+        6 => add_frames::<6>(h, g, call, count, start),
+        7 => add_frames::<7>(h, g, call, count, start),
+        8 => add_frames::<8>(h, g, call, count, start),
+        9 => add_frames::<9>(h, g, call, count, start),
+        _ => unreachable!(),
     }
-    sum
 }
 
 // The parts of a batch are added where the map says, and their costs to a sum.
@@ -234,7 +259,7 @@ pub fn add_run(
     if dof == 3 && all_mapped(map, count) {
         return add_threes(h, g, &call, count, start);
     }
-    add_frames(h, g, &call, dof, count, start)
+    add_frames_by(h, g, &call, dof, count, start)
 }
 
 // All frames of a call under a plane: each one's block and vector are added where the map says, and the cost, with the fixed set's, is the answer.

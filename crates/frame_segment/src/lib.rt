@@ -174,9 +174,9 @@ fn add_vector(g: &mut [f64], at: usize, width: usize, r: &Rows, s: [f64; 3], t: 
     }
 }
 
-// A frame of so many columns: a call with a literal width has code of its own, so that the compiler unrolls the loops.
+// A frame's block and vector are added at row `at`. A caller to which the width is a literal has code of its own, whose loops are unrolled.
 #[inline(always)]
-fn add_width(
+pub fn add_at(
     h: &mut [f64],
     g: &mut [f64],
     n: usize,
@@ -197,36 +197,4 @@ fn add_width(
     let r = Rows::of_frame(x, f, normal, width);
     add_block(h, n, at, width, &r, f.count, weight);
     add_vector(g, at, width, &r, s, t, weight);
-}
-
-// A frame's block and vector are added at row `at`.
-pub fn add_at(
-    h: &mut [f64],
-    g: &mut [f64],
-    n: usize,
-    at: usize,
-    width: usize,
-    frames: &[f64],
-    actions: &[f64],
-    k: usize,
-    normal: [f64; 3],
-    s: [f64; 3],
-    t: f64,
-    weight: f64,
-)
-    requires { (width ≤ 9) × (at + width ≤ n) × (length h.old ≡ n * n) × (length g.old ≡ n) × Held frames.now actions.now k }
-    ensures { Added n at width (block_entry (action_at actions.now k) (frame_at frames.now k) normal weight) (pulled_entry (action_at actions.now k) (frame_at frames.now k) normal s t weight) h.old h.new g.old g.new }
-{
-    match width {
-        1 => add_width(h, g, n, at, 1, frames, actions, k, normal, s, t, weight),
-        2 => add_width(h, g, n, at, 2, frames, actions, k, normal, s, t, weight),
-        3 => add_width(h, g, n, at, 3, frames, actions, k, normal, s, t, weight),
-        4 => add_width(h, g, n, at, 4, frames, actions, k, normal, s, t, weight),
-        5 => add_width(h, g, n, at, 5, frames, actions, k, normal, s, t, weight),
-        6 => add_width(h, g, n, at, 6, frames, actions, k, normal, s, t, weight),
-        7 => add_width(h, g, n, at, 7, frames, actions, k, normal, s, t, weight),
-        8 => add_width(h, g, n, at, 8, frames, actions, k, normal, s, t, weight),
-        9 => add_width(h, g, n, at, 9, frames, actions, k, normal, s, t, weight),
-        _ => add_width(h, g, n, at, width, frames, actions, k, normal, s, t, weight),
-    }
 }

@@ -103,15 +103,15 @@ impl Weighted {
     }
 }
 
-// The frames weighed.
+// The frames weighed. The loop ends by the test that `frame` makes, so that the compiler drops the latter.
 fn weigh(frames: &[f64], actions: &[f64]) -> Weighted
     requires { action_size * frame_count frames.now ≤ length actions.now }
     ensures { result ≡ weighed frames.now actions.now (frame_count frames.now) }
 {
     let mut s = Weighted::default();
     for k in 0..frames.len() / CENTRED {
-        let (f, x) = frame_and_action(frames, actions, k);
-        let w = centre(x, f);
+        let f = Centred::from_list(frame(frames, k));
+        let w = centre(record(actions, k), f);
         s = s.with_set(w, f.count);
     }
     s

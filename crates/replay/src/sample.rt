@@ -57,15 +57,16 @@ impl Cursor {
     }
 }
 
-// The bytes of the sample, with zeros after them.
+// The bytes of the sample, with zeros after them. Their number is known, and four divide it, so that the compiler reads a unit by one test.
 #[derive(Clone, Copy)]
 pub struct Sample<'a> {
-    pub bytes: &'a [u8],
+    pub bytes: &'a [u8; 700000],
 }
 
 impl Sample<'_> {
     fn byte(self, at: usize) -> u8 {
-        self.bytes.get(at).copied().unwrap_or(0)
+        let bytes = self.bytes;
+        bytes.get(at).copied().unwrap_or(0)
     }
 
     pub fn unit(self, unit: usize) -> u32 {

@@ -5,10 +5,10 @@ use Rattle.frame_blocks.specs.Frames.{first-none, batch_more, run_fits, run_squa
 use Rattle.frame_blocks.proofs.add_batch.Goals as goal
 
 pub loop-k-init : goal.loop-k-init
-loop-k-init c = (refl, refl, first-none _ _ _ _ _ _)
+loop-k-init g c = (refl, refl, first-none _ _ _ _ _ _)
 
 pub add_frame-requires : goal.add_frame-requires
-add_frame-requires c =
+add_frame-requires g c =
     let l = c.loop-k in
     let ready = c.requires.1 in (
       ready.narrow,
@@ -18,7 +18,7 @@ add_frame-requires c =
     )
 
 pub loop-k-preserved : goal.loop-k-preserved
-loop-k-preserved c =
+loop-k-preserved g c =
     let l = c.loop-k in
     let cells = c.args.pulls.now in (
       c.add_frame.auto.h ∙ l.invariant.0,
@@ -27,7 +27,7 @@ loop-k-preserved c =
     )
 
 pub returns : goal.returns
-returns c =
+returns g c =
     let l = c.loop-k in
     let e : l.k ≡ c.args.size = omega arith in
     rw e at l.invariant.2

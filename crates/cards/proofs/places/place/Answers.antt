@@ -1,17 +1,6 @@
--- `cards::places::place` meets its contract: antt works out the list that the rule gives and compares it with the table, and `get_or-listed` gives the rule at
--- each entry. Assumes nothing.
-use Prim.Native.Nat.{◌+◌, ◌*◌, ◌/◌, ◌%◌}
+-- `cards::places::place` meets its contract: the table's rule at its entry. Assumes nothing.
 use mathlib.Core.Path.{◌≡◌, ◌∙◌}
-use native.Mathlib.Omega.{arith}
-use Rattle.point_moments.specs.Moments.{MOMENTS}
-use Rattle.cards.specs.Card.{GROUPED, card_place, listed}
-use Rattle.cards.proofs.Lists.{get_or-listed}
 use Rattle.cards.proofs.places.place.Goals as goal
 
 pub returns : goal.returns
-unfolding listed
-returns c =
-    let f = c.args.f in
-    let i = MOMENTS * c.args.r + f in
-    let e : card_place (i % MOMENTS) (i / MOMENTS) ≡ card_place f c.args.r = omega arith in
-    c.from.ensures ∙ get_or-listed GROUPED (λ i. card_place (i % MOMENTS) (i / MOMENTS)) i (omega arith) ∙ e
+returns c = c.from.ensures ∙ c.table.ensures c.args.f c.args.r c.requires.0 c.requires.1

@@ -1,7 +1,7 @@
--- `frame_segment::add_width` meets its contract: of the frame's rows, block and vector are the frame's. Assumes nothing.
+-- `frame_segment::add_at` meets its contract: of the frame's rows, block and vector are the frame's. Assumes nothing.
 use mathlib.Core.Path.{refl}
 use Rattle.frame_segment.specs.Steps.{adds}
-use Rattle.frame_segment.proofs.add_width.Goals as goal
+use Rattle.frame_segment.proofs.add_at.Goals as goal
 
 pub returns : goal.returns
 returns c =
